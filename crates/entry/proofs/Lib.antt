@@ -1,1 +1,2 @@
 pub mod Commas
+pub mod Spelling

@@ -1,9 +1,9 @@
 // Numbers as text.
 ghost use Prim.Native.Nat.{_^_, _+_, _<_, _≤_};
-ghost use lib.IntN.{natAbs};
 ghost use lib.ListN.{length};
 ghost use mathlib.Core.Path.{_≡_};
 ghost use Rattle.entry.specs.Numbers.{comma, digitsOf, numberOf, numbersOf};
+ghost use Rattle.entry.specs.Printed.{Printed};
 ghost use Rattle.std.specs.Options.{okOr};
 ghost use Rattle.std.specs.Vec.{made};
 use fault::Fault;
@@ -29,10 +29,8 @@ fn digits(text: &[u8], most: usize) -> Result<u32, Fault>
     Ok(n)
 }
 
-// The number that a text is: 0, or an optional minus and one to seven digits, the first not 0.
-pub fn number(text: &[u8]) -> Result<i32, Fault>
-    ensures value { λ r. ⌜ r ≡ numberOf (now (text .entry)) ⌝ }
-    ensures small { λ r. ⌜ made r (λ z. natAbs z < 10 ^ 7) ⌝ }
+fn signed_digits(text: &[u8]) -> Result<i32, Fault>
+    ensures { λ r. ⌜ r ≡ numberOf (now (text .entry)) ⌝ }
 {
     if text.len() == 1 && text[0] == b'0' {
         return Ok(0);
@@ -43,6 +41,14 @@ pub fn number(text: &[u8]) -> Result<i32, Fault>
     }
     let n = digits(text, MOST_DIGITS)?;
     Ok(n as i32)
+}
+
+// The number that a text is: 0, or an optional minus and one to seven digits, the first not 0.
+pub fn number(text: &[u8]) -> Result<i32, Fault>
+    ensures value { λ r. ⌜ r ≡ numberOf (now (text .entry)) ⌝ }
+    ensures printed { λ r. ⌜ Printed (now (text .entry)) r ⌝ }
+{
+    signed_digits(text)
 }
 
 // Where the first comma stands, or the text's length.

@@ -44,7 +44,7 @@ loop-i-again g c =
     let h = ap (λ k. numberOf (between 0 k bs)) e ∙ sym (c .in-Continue-found .ensures tt .value) in
     let k = goes (g .N) (c .loop-i .i) bs (c .loop-i .found) (c .loop-i-test .taken) x (c .loop-i .inv .1) h in
     let f = with (take (c .loop-i .i + 1) (set (c .loop-i .found) (c .loop-i .i) x)) in
-    let w : toZ w32 (ofZ w32 x) ≡ x = whole x (c .in-Continue-found .ensures tt .small) in
+    let w : toZ w32 (ofZ w32 x) ≡ x = whole x (c .in-Continue-found .ensures tt .printed .reads x refl .1) in
     rw w (
       c .loop-i .inv .0 ∙ k ∙ ap (λ j. f (numbersOf (g .N - (c .loop-i .i + 1)) (between (j + 1) (length bs) bs))) e,
       length-set (c .loop-i .found) (c .loop-i .i) x ∙ c .loop-i .inv .1,
@@ -62,5 +62,5 @@ returns g c =
     let e : i ≡ g .N - 1 = omega (arith, c .pre) in
     let k = ends (g .N) i (c .loop-i .rest .now) (c .loop-i .found) l _ (c .loop-i .inv .1) (sym (c .in-Continue-found-2 .ensures tt .value)) in
     let x = c .in-Continue-found-2 .field-0 in
-    let w : toZ w32 (ofZ w32 x) ≡ x = whole x (c .in-Continue-found-2 .ensures tt .small) in
+    let w : toZ w32 (ofZ w32 x) ≡ x = whole x (c .in-Continue-found-2 .ensures tt .printed .reads x refl .1) in
     rw w (sym (c .loop-i .inv .0 ∙ k ∙ ap (λ j. Ok (set (c .loop-i .found) j x)) e))
