@@ -2,7 +2,9 @@
 mod order;
 mod reader;
 mod table;
+mod whole;
 
 pub use order::Kind;
 pub use order::Stage;
 pub use reader::Reader;
+pub use whole::entries;
