@@ -24,7 +24,7 @@ pub with-none : (r : Result (List Item) Fault) → r ≡ with [] r
 with-none (Ok xs) = refl
 with-none (Err f) = refl
 
-with-more : (found : List Item) (x : Item) (r : Result (List Item) Fault) → with found (then (λ xs. Ok (x ∷ xs)) r) ≡ with (found ++ x ∷ []) r
+pub with-more : (found : List Item) (x : Item) (r : Result (List Item) Fault) → with found (then (λ xs. Ok (x ∷ xs)) r) ≡ with (found ++ x ∷ []) r
 with-more found x (Ok xs) = ap Ok (sym (append-assoc found (x ∷ []) xs))
 with-more found x (Err f) = refl
 

@@ -5,7 +5,7 @@ use Rattle.std.specs.Of.Vec.{vec-items}
 use Rattle.sheet.specs.Reading.{itemOf}
 use Rattle.sheet.specs.Sheets.{itemsFrom, sheetOf}
 use Rattle.sheet.proofs.Runs.{with}
-use Rattle.sheet.proofs.whole.entries.Given as given
+use Rattle.sheet.proofs.whole.gather.Given as given
 
 abbrev pub Inv-loop-found : given.InvT-loop-found
 Inv-loop-found l =
