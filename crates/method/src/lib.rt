@@ -23,7 +23,9 @@ pub fn is_planned(n: i32) -> bool
 
 pub trait Method {
     type Reading: Copy;
+
     type Tally: Copy;
+
     type Numbers: Copy;
 
     // what the method means
