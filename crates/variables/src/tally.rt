@@ -1,5 +1,6 @@
 ghost use mathlib.Core.Path.{_≡_};
 ghost use mathlib.Core.Bool.{true};
+ghost use Prim.Native.Nat.{_+_, _≤_};
 ghost use Rattle.method.specs.Answers.{given};
 ghost use Rattle.method.specs.Meaning.{Made};
 ghost use Rattle.variables.specs.Sums.{Sound, alone, none, noted, pooled, reading, together};
@@ -20,6 +21,21 @@ const SQUARE: u64 = 4_000_000;
 pub struct Tally {
     sums: Sums,
     ghost ok: { Sound sums },
+}
+
+// The numbers of the readings of two tallies, which are few enough for one.
+fn plus(x: Sums, y: Sums) -> Sums
+    requires first { ⌜ Sound x ⌝ }
+    requires second { ⌜ Sound y ⌝ }
+    requires few { ⌜ x .n + y .n ≤ 50 ⌝ }
+    ensures value { λ r. ⌜ r ≡ together x y ⌝ }
+    ensures few { λ r. ⌜ r .n ≤ 50 ⌝ }
+{
+    Sums {
+        n: x.n + y.n,
+        s: x.s + y.s,
+        q: x.q + y.q,
+    }
 }
 
 impl Tally {
@@ -72,13 +88,7 @@ impl Tally {
         if x.n + y.n > MOST {
             return Err(Fault::TallyFull(0));
         }
-        Ok(Tally {
-            sums: Sums {
-                n: x.n + y.n,
-                s: x.s + y.s,
-                q: x.q + y.q,
-            },
-        })
+        Ok(Tally { sums: plus(x, y) })
     }
 
     pub fn enter(self, r: i32) -> Result<Tally, Fault>
