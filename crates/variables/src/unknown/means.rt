@@ -58,7 +58,7 @@ pub impl Method for Unknown as UnknownMethod {
     }
 
     fn count(&self, t: Tally) -> u32 {
-        t.sums().n
+        self.numbers(t).n
     }
 
     fn verdict(&self, t: Tally) -> Verdict {
