@@ -1,0 +1,4 @@
+pub mod Verdicts
+pub mod Plans
+pub mod Meaning
+pub mod Answers
