@@ -12,7 +12,9 @@ use Rattle.std.specs.declared.result.Result.{Result}
 use Rattle.std.specs.declared.result.Result.the-variants.{Ok, Err}
 use Rattle.fault.specs.Located.{then}
 use Rattle.fault.specs.declared.Fault.{Fault}
-use Rattle.sheet.specs.Reading.{Item, Progress, stepAt, moved, advanced}
+use Rattle.entry.specs.declared.kinds.Said.{Said}
+use Rattle.sheet.specs.Order.{followed}
+use Rattle.sheet.specs.Reading.{Item, Progress, advanced, entryAt, item, moved, placeAt, standing, stepAt}
 use Rattle.sheet.specs.Sheets.{itemsFrom}
 use Rattle.sheet.specs.declared.order.Stage.{Stage}
 
@@ -102,3 +104,18 @@ ends-in s m i t f found l h =
 pub ends : (s : List ℕ) (m i : ℕ) (t : Stage) (found : List Item) → m ≤ i → with found (itemsFrom s (m - i) i t) ≡ Ok (found ++ [])
 unfolding itemsFrom
 ends s m i t found l = let e : m - i ≡ 0 = omega arith in rw e
+
+-- the part of an entry that a step gives
+pub step-part : (s : List ℕ) (i : ℕ) (t u : Stage) (x : Item) → stepAt s i t ≡ Ok (x, u) → x .part ≡ placeAt s i
+step-part s i t u x h = by-entry (entryAt s i) h
+  where
+    by-stage : (y : Said) (o : Option Stage) → standing s i y o ≡ Ok (x, u) → x .part ≡ placeAt s i
+    by-stage y None e = let z : _≡_ {A = ℕ} 0 1 = cc in absurd (omega arith)
+    by-stage y (Some v) e = sym (ap (λ (p : Item × Stage). p .0 .part) (same (item s i y, v) (x, u) e))
+      where
+        same : (p q : Item × Stage) → _≡_ {A = Result (Item × Stage) Fault} (Ok p) (Ok q) → p ≡ q
+        same p q e = cc
+
+    by-entry : (r : Result Said Fault) → then (λ y. standing s i y (followed t y)) r ≡ Ok (x, u) → x .part ≡ placeAt s i
+    by-entry (Ok y) e = by-stage y (followed t y) e
+    by-entry (Err f) e = let z : _≡_ {A = ℕ} 0 1 = cc in absurd (omega arith)
