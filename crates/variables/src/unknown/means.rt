@@ -1,3 +1,4 @@
+// The method of unknown deviation as one of the methods of inspection.
 ghost use Rattle.variables.specs.Laws.{unknown-laws};
 ghost use Rattle.variables.specs.Sums.{sound};
 ghost use Rattle.variables.specs.Unknown.{unknown};
