@@ -13,12 +13,13 @@ use fault::Fault;
 // The most readings that a tally holds.
 const MOST: u32 = 50;
 
-// The greatest size of a reading, and its square.
+// The greatest size of a reading.
 const SIZE: u64 = 2_000;
 
+// The square of that size.
 const SQUARE: u64 = 4_000_000;
 
-// The numbers of at most fifty readings.
+// Numbers such as at most 50 readings may have.
 #[derive(Clone, Copy)]
 pub struct Tally {
     sums: Sums,
