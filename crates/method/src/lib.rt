@@ -73,6 +73,7 @@ pub trait Method {
     fn count(&self, t: Self::Tally) -> u32
         ensures { λ a. ⌜ a ≡ meaning (now (self .entry)) .count (of t) ⌝ };
 
+    // What is said of the lot that the readings were taken from.
     fn verdict(&self, t: Self::Tally) -> Verdict
         ensures { λ a. ⌜ a ≡ meaning (now (self .entry)) .verdict (of t) ⌝ };
 }

@@ -1,16 +1,16 @@
 -- Joining and entering keep a tally's numbers sound.
-use mathlib.Core.Path.{_≡_, refl, sym, ap, subst, _∙_}
+use mathlib.Core.Path.{_≡_}
 use mathlib.Core.Bool.{true}
-use Prim.Native.Nat.{ℕ, _+_, _*_, _≤_}
+use Prim.Native.Nat.{_+_, _*_, _≤_}
 use native.Mathlib.Nat.{mul-le-mul}
 use native.Mathlib.Omega.{arith}
-use lib.IntN.{ℤ, pos, negℤ, natAbs, _+ℤ_, _*ℤ_, _-ℤ_}
+use lib.IntN.{ℤ, pos, negℤ, natAbs, _+ℤ_, _-ℤ_}
 use lib.Signed.{_≤ℤ_, leZ}
 use borrow.Author.Differences.{ints}
 use Rattle.std.proofs.shelf.Tests.{and-parts}
 use Rattle.integers.specs.Size.{square-size, size-sum, squares-join}
 use Rattle.variables.specs.declared.sums.Sums.{Sums}
-use Rattle.variables.specs.Sums.{Sound, none, alone, together, reading, spread}
+use Rattle.variables.specs.Sums.{Sound, alone, together, reading, spread}
 
 pub spread-in : (x : Sums) → natAbs (x .s) * natAbs (x .s) ≤ x .n * x .q → pos 0 ≤ℤ spread x
 spread-in x h = rw (square-size (x .s)) (omega (arith, ints))

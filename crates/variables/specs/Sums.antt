@@ -48,6 +48,6 @@ sound x = leb (x .n) 50 && (leb (natAbs (x .s)) (2000 * x .n) && (leb (x .q) (40
 abbrev pub pooled : Sums → Sums → Result Sums Fault
 pooled x y = cond (leb (x .n + y .n) 50) (Ok (together x y)) (Err (TallyFull 0))
 
--- a tally with one more reading
+-- a tally with one more reading, refused where the number is no reading
 abbrev pub noted : Sums → ℤ → Result Sums Fault
-noted x r = cond (reading r) (pooled x (together (alone r) none)) (Err (ReadingNotTaken 0))
+noted x r = cond (reading r) (pooled x (summed (r ∷ []))) (Err (ReadingNotTaken 0))

@@ -1,4 +1,5 @@
 -- The method of unknown deviation, with the lower limit l and the constant of k thousandths.
+-- In the formulas N, S and Q are the count, the sum and the sum of squares in x, L is l and K is k.
 use mathlib.Core.Path.{_≡_}
 use mathlib.Core.Bool.{Bool, true, _&&_, cond}
 use lib.Dec.{leb}
@@ -31,7 +32,7 @@ margin l x = pos 1000000 *ℤ (pos (x .n) -ℤ pos 1) *ℤ above l x *ℤ above 
 abbrev pub judged : ℤ → ℤ → Sums → Verdict
 judged l k x = cond (leZ (pos 0) (above l x)) (compared (scatter k x) (margin l x)) NotAccepted
 
--- what the readings have to meet
+-- what the readings have to meet: A is not negative, and K × K × N × D is at most 1,000,000 × (N - 1) × A × A
 abbrev pub Upheld : ℤ → ℤ → Sums → Type 0
 Upheld l k x = (pos 0 ≤ℤ above l x) × (scatter k x ≤ℤ margin l x)
 

@@ -1,3 +1,4 @@
+// What a reading is.
 ghost use mathlib.Core.Path.{_≡_};
 ghost use Rattle.variables.specs.Sums.{reading};
 

@@ -1,9 +1,11 @@
+// Tallies: what is kept of the readings of a sample.
 ghost use mathlib.Core.Path.{_≡_};
 ghost use mathlib.Core.Bool.{true};
+ghost use mathlib.Core.List.{[], _∷_};
 ghost use Prim.Native.Nat.{_+_, _≤_};
 ghost use Rattle.method.specs.Answers.{given};
 ghost use Rattle.method.specs.Meaning.{Made};
-ghost use Rattle.variables.specs.Sums.{Sound, alone, none, noted, pooled, reading, together};
+ghost use Rattle.variables.specs.Sums.{Sound, none, noted, pooled, reading, summed, together};
 use crate::reading::is_reading;
 use crate::sums::Sums;
 use fault::Fault;
@@ -11,12 +13,13 @@ use fault::Fault;
 // The most readings that a tally holds.
 const MOST: u32 = 50;
 
-// The greatest size of a reading, and its square.
+// The greatest size of a reading.
 const SIZE: u64 = 2_000;
 
+// The square of that size.
 const SQUARE: u64 = 4_000_000;
 
-// What is kept of the readings that were entered.
+// Numbers such as at most 50 readings may have.
 #[derive(Clone, Copy)]
 pub struct Tally {
     sums: Sums,
@@ -39,12 +42,14 @@ fn plus(x: Sums, y: Sums) -> Sums
 }
 
 impl Tally {
+    // The numbers of the readings that were entered.
     pub fn sums(self) -> Sums
         ensures { λ r. ⌜ r ≡ self .sums ⌝ }
     {
         self.sums
     }
 
+    // The tally of no readings.
     pub fn blank() -> Tally
         ensures { λ r. ⌜ r .sums ≡ none ⌝ }
     {
@@ -69,7 +74,7 @@ impl Tally {
     // The tally of one reading.
     fn one(r: i32) -> Tally
         requires { ⌜ reading r ≡ true ⌝ }
-        ensures { λ t. ⌜ t .sums ≡ together (alone r) none ⌝ }
+        ensures { λ t. ⌜ t .sums ≡ summed (r ∷ []) ⌝ }
     {
         let size = r.unsigned_abs() as u64;
         Tally {
@@ -81,6 +86,7 @@ impl Tally {
         }
     }
 
+    // Two tallies as one.
     pub fn join(self, other: Tally) -> Result<Tally, Fault>
         ensures { λ a. ⌜ given (λ t. t .sums) a ≡ pooled (self .sums) (other .sums) ⌝ }
     {
@@ -91,6 +97,7 @@ impl Tally {
         Ok(Tally { sums: plus(x, y) })
     }
 
+    // The tally with one more reading.
     pub fn enter(self, r: i32) -> Result<Tally, Fault>
         ensures { λ a. ⌜ given (λ t. t .sums) a ≡ noted (self .sums) r ⌝ }
     {

@@ -1,18 +1,13 @@
+// The verdict on a lot, worked out in whole numbers of 64 bits.
 ghost use mathlib.Core.Path.{_≡_};
 ghost use Prim.Native.Nat.{_*_, _≤_, _<_, _^_};
 ghost use lib.IntN.{_*ℤ_, natAbs, pos, _-ℤ_};
-ghost use Rattle.method.specs.Answers.{given};
 ghost use Rattle.variables.specs.Sums.{Sound, spread};
-ghost use Rattle.variables.specs.Unknown.{above, judged, newly, Tells};
+ghost use Rattle.variables.specs.Unknown.{Tells, above, judged};
 use super::Unknown;
-use crate::reading::is_reading;
 use crate::sums::Sums;
 use crate::tally::Tally;
-use fault::Fault;
 use method::verdict::Verdict;
-
-// The greatest constant, in thousandths.
-const GREATEST: i32 = 4_000;
 
 // The product of a number of size at most M and one of size at most K.
 fn times<const M: u64, const K: u64>(a: i64, b: i64) -> i64
@@ -65,7 +60,7 @@ fn product<const P: u64, const Q: u64, const R: u64, const S: u64>(
 fn scatter(k: i32, n: u32, d: i64) -> i64
     requires factor { ⌜ natAbs k ≤ 4000 ⌝ }
     requires count { ⌜ n ≤ 50 ⌝ }
-    requires spread { ⌜ natAbs d ≤ 10000000000 ⌝ }
+    requires size { ⌜ natAbs d ≤ 10000000000 ⌝ }
     ensures { λ r. ⌜ r ≡ k *ℤ k *ℤ pos n *ℤ d ⌝ }
 {
     let k = k as i64;
@@ -75,23 +70,13 @@ fn scatter(k: i32, n: u32, d: i64) -> i64
 // 1,000,000 × (N - 1) × A × A
 fn margin(n: u32, a: i64) -> i64
     requires count { ⌜ n ≤ 50 ⌝ }
-    requires above { ⌜ natAbs a ≤ 200000 ⌝ }
+    requires size { ⌜ natAbs a ≤ 200000 ⌝ }
     ensures { λ r. ⌜ r ≡ pos 1000000 *ℤ (pos n -ℤ pos 1) *ℤ a *ℤ a ⌝ }
 {
     product::<1_000_000, 50, 200_000, 200_000>(1_000_000, n as i64 - 1, a, a)
 }
 
 impl Unknown {
-    pub fn new(limit: i32, k: i32) -> Result<Unknown, Fault>
-        ensures { λ r. ⌜ given (λ m. (m .limit, m .k)) r ≡ newly limit k ⌝ }
-    {
-        if is_reading(limit) && 0 <= k && k <= GREATEST {
-            Ok(Unknown { limit, k })
-        } else {
-            Err(Fault::PlanConstant(0))
-        }
-    }
-
     // What the numbers of the readings say of the lot.
     fn weigh(self, x: Sums) -> Verdict
         requires { ⌜ Sound x ⌝ }

@@ -1,3 +1,4 @@
+// The method of unknown deviation as one of the methods of inspection.
 ghost use Rattle.variables.specs.Laws.{unknown-laws};
 ghost use Rattle.variables.specs.Sums.{sound};
 ghost use Rattle.variables.specs.Unknown.{unknown};
@@ -9,9 +10,10 @@ use fault::Fault;
 use method::Method;
 use method::verdict::Verdict;
 
-// The fewest and the most readings that may be planned.
+// The fewest readings that may be planned.
 const FEWEST: u32 = 2;
 
+// The most readings that may be planned.
 const MOST: u32 = 50;
 
 pub impl Method for Unknown as UnknownMethod {

@@ -1,4 +1,4 @@
-use mathlib.Core.Path.{sym, subst, ap}
+use mathlib.Core.Path.{sym, subst}
 use Prim.Native.Nat.{_≤_}
 use Rattle.variables.specs.declared.sums.Sums.{Sums}
 use Rattle.variables.specs.Sums.{Sound}

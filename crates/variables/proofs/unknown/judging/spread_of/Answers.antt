@@ -1,14 +1,14 @@
 use mathlib.Core.Path.{_≡_, sym, subst, ap, _∙_}
-use Prim.Native.Nat.{ℕ, _+_, _*_, _≤_}
+use Prim.Native.Nat.{_≤_}
 use native.Mathlib.Omega.{arith}
 use lib.IntN.{ℤ, pos, _*ℤ_, _-ℤ_, natAbs}
 use lib.Signed.{_≤ℤ_}
 use mir.Syntax.{w64}
-use mir.Val.{toZ, ofZ, SFits}
+use mir.Val.{toZ, ofZ}
 use borrow.Author.Differences.{ints}
 use Rattle.integers.specs.Size.{square-size}
 use Rattle.integers.specs.Words.{back-sub}
-use Rattle.variables.specs.Sums.{Sound, spread}
+use Rattle.variables.specs.Sums.{spread}
 use Rattle.variables.proofs.unknown.judging.spread_of.Needs as need
 
 module _ (c : need.After-times-2) where

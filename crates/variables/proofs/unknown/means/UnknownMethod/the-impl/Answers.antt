@@ -1,6 +1,6 @@
-use mathlib.Core.Path.{_≡_, refl, sym, ap, subst}
-use mathlib.Core.Bool.{Bool, true, _&&_}
-use Prim.Native.Nat.{_*_, _≤_}
+use mathlib.Core.Path.{_≡_, refl, subst}
+use mathlib.Core.Bool.{true}
+use Prim.Native.Nat.{_*_}
 use lib.Dec.{leb}
 use lib.IntN.{pos, natAbs}
 use lib.Signed.{leZ, _≤ℤ_}
