@@ -2,6 +2,7 @@
 ghost use Prim.Native.Nat.{_≤_};
 ghost use Rattle.carry.specs.Booking.{view};
 ghost use Rattle.carry.specs.Carrying.{Began, blank, booksOf, came, closed, firstOf, lotUnder, other, outcomeOf, plannedFor, reported, viewed};
+ghost use Rattle.carry.specs.Judged.{JudgedBySheet};
 ghost use Rattle.sheet.specs.Reading.{progress};
 ghost use Rattle.sheet.specs.Sheets.{Answered};
 ghost use Rattle.std.specs.Vec.{made};
@@ -117,4 +118,12 @@ fn carry_out(heap: Global, sheet: &[u8]) -> Result<Outcome, Fault>
         }
         _ => leave(heap, sheet, plan),
     }
+}
+
+// Carries a sheet out and judges its lot, or says that its plan is not judged yet.
+pub fn carry(heap: Global, sheet: &[u8]) -> Result<Outcome, Fault>
+    ensures told { λ r. ⌜ Answered (came r) (outcomeOf (now (sheet .entry))) ⌝ }
+    ensures judged { λ r. ⌜ JudgedBySheet (now (sheet .entry)) (came r) ⌝ }
+{
+    carry_out(heap, sheet)
 }

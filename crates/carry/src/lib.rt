@@ -3,6 +3,7 @@ mod booked;
 mod carrying;
 mod report;
 
+pub use carrying::carry;
 pub use report::Drum;
 pub use report::Outcome;
 pub use report::Report;
