@@ -1,7 +1,6 @@
 -- What an entry says and which part of the sheet it is.
 use mathlib.Core.List.{List}
 use Prim.Native.Nat.{ℕ}
-use lib.IntN.{ℤ}
 use Rattle.entry.specs.declared.kinds.Part.{Part}
 use Rattle.entry.specs.declared.kinds.Plan.{Plan}
 use Rattle.entry.specs.declared.kinds.Plan.the-variants.{Known, Unknown, Window, Marks, Gauged, Mean, Paired}
@@ -19,16 +18,6 @@ letterOf (Marks n a) = 65
 letterOf (Gauged n l h a) = 71
 letterOf (Mean n m) = 84
 letterOf (Paired n) = 86
-
--- the planned number of readings
-abbrev pub plannedOf : Plan → ℤ
-plannedOf (Known n l s k) = n
-plannedOf (Unknown n l k) = n
-plannedOf (Window n l u k) = n
-plannedOf (Marks n a) = n
-plannedOf (Gauged n l h a) = n
-plannedOf (Mean n m) = n
-plannedOf (Paired n) = n
 
 -- a part of a sheet by what it holds, where it begins and which entry it is
 pub record Place : Type 0 where

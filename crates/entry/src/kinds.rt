@@ -1,6 +1,6 @@
 // The kinds of entries.
 ghost use mathlib.Core.Path.{_≡_};
-ghost use Rattle.entry.specs.Entries.{letterOf, partOf, plannedOf, saidBy, shown};
+ghost use Rattle.entry.specs.Entries.{letterOf, partOf, saidBy, shown};
 
 // A part of a sheet: its bytes, where they begin, and which entry they are, counted from 1.
 #[derive(Clone, Copy)]
@@ -82,21 +82,6 @@ impl Plan {
             Plan::Gauged { .. } => b'G',
             Plan::Mean { .. } => b'T',
             Plan::Paired { .. } => b'V',
-        }
-    }
-
-    // The planned number of readings.
-    pub fn planned(self) -> i32
-        ensures { λ r. ⌜ r ≡ plannedOf self ⌝ }
-    {
-        match self {
-            Plan::Known { n, .. } => n,
-            Plan::Unknown { n, .. } => n,
-            Plan::Window { n, .. } => n,
-            Plan::Marks { n, .. } => n,
-            Plan::Gauged { n, .. } => n,
-            Plan::Mean { n, .. } => n,
-            Plan::Paired { n } => n,
         }
     }
 }
