@@ -13,13 +13,15 @@ use Rattle.std.proofs.shelf.Lists.{set-past}
 use Rattle.std.proofs.shelf.Tests.{cases-lt, le-leb, lt-ltb, ltb-true}
 use Rattle.std.specs.declared.result.Result.{Result}
 use Rattle.std.specs.declared.result.Result.the-variants.{Ok, Err}
+use Rattle.fault.specs.Faults.{met}
+use Rattle.fault.specs.Located.{located}
 use Rattle.fault.specs.declared.Fault.{Fault}
-use Rattle.fault.specs.declared.Fault.the-variants.{RowFull}
+use Rattle.fault.specs.declared.Fault.the-variants.{NoMemory, RowFull}
 use Rattle.variables.specs.Sums.{noted, reading, summed, together}
 use Rattle.variables.specs.declared.sums.Sums.{Sums}
 use Rattle.entry.specs.declared.kinds.Said.{Said}
 use Rattle.entry.specs.declared.kinds.Said.the-variants.{Planned, Drum as Drummed, Reading, Pair, Mark}
-use Rattle.carry.specs.Booking.{Books, Counted, carriedOut, counted, drum, drumCalled, entered, named, oneMore, placeOf}
+use Rattle.carry.specs.Booking.{Books, Counted, Done, carriedOut, counted, drum, drumCalled, entered, named, oneMore, placeOf}
 use Rattle.carry.specs.declared.report.Drum.{Drum}
 
 granted : (a b : Bool) (x y : Sums) (f g : Fault) → a ≡ true → b ≡ true → Ok x ≡ cond a (cond b (Ok y) (Err f)) (Err g) → x ≡ y
@@ -88,3 +90,14 @@ still-counted n (Reading r) b c h k =
     rw (e, d .3) (one-counted (b .drums) (b .current) (b .total .n) k)
 still-counted n (Pair u v) b c h k = let z : _≡_ {A = ℕ} 0 1 = cc in absurd (omega arith)
 still-counted n (Mark u) b c h k = let z : _≡_ {A = ℕ} 0 1 = cc in absurd (omega arith)
+
+-- a booking whose refusal was met at entry i
+pub booked-ok : (i : ℕ) (r : Result (Unit {0}) Fault) (b c : Books) (x : Result Books Fault) (u : Unit {0}) → Ok u ≡ located i r → Done b r c x → x ≡ Ok c
+booked-ok i (Ok v) b c x u h d = d
+booked-ok i (Err f) b c x u h d = let z : _≡_ {A = ℕ} 0 1 = cc in absurd (omega arith)
+
+pub booked-err : (i : ℕ) (r : Result (Unit {0}) Fault) (b c : Books) (x : Result Books Fault) (f : Fault) → Err f ≡ located i r → Done b r c x → (f ≡ NoMemory) ⊎ ((g : Fault) × (x ≡ Err g) × (f ≡ met i g))
+booked-err i (Ok v) b c x f h d = let z : _≡_ {A = ℕ} 0 1 = cc in absurd (omega arith)
+booked-err i (Err g) b c x f h d =
+    let e : f ≡ met i g = cc in
+    ⊎-elim (λ k. inl (e ∙ ap (met i) k)) (λ k. inr (g, k, e)) (d .1)

@@ -49,9 +49,7 @@ fn book_entries(heap: Global, mut reader: Reader<'_>, n: u32) -> Result<Booked, 
         tally: Tally::blank(),
     };
     while let Some(entry) = reader.read()? {
-        if let Err(fault) = booked.carry_out(n, entry.said()) {
-            return Err(fault.at(entry.part().place));
-        }
+        within(booked.carry_out(n, entry.said()), entry.part().place)?;
     }
     Ok(booked)
 }

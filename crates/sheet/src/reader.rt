@@ -12,6 +12,7 @@ use entry::Entry;
 use entry::Part;
 use entry::said;
 use fault::Fault;
+use fault::within;
 
 #[derive(Drop)]
 pub struct Reader<'a> {
@@ -34,10 +35,7 @@ fn step<'a>(sheet: &'a [u8], i: u16, stage: Stage) -> Result<(Entry<'a>, Stage),
     let offset = span.offset;
     let end = offset + span.size;
     let bytes = &sheet[offset..end];
-    let said = match said(bytes) {
-        Ok(said) => said,
-        Err(fault) => return Err(fault.at(place)),
-    };
+    let said = within(said(bytes), place)?;
     match follow(stage, said) {
         Some(next) => Ok((
             Entry::new(

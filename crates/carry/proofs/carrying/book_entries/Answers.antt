@@ -9,7 +9,7 @@ use Rattle.sheet.specs.Reading.{advanced, itemOf, progress, seen}
 use Rattle.sheet.proofs.Runs.{Pace, step-part, steps}
 use Rattle.entry.specs.Entries.{Place}
 use Rattle.fault.specs.Faults.{met}
-use Rattle.carry.proofs.Bookings.{still-counted}
+use Rattle.carry.proofs.Bookings.{booked-err, booked-ok, still-counted}
 use Rattle.carry.specs.Booking.{carriedOut, view}
 use Rattle.carry.proofs.Walks.{goes, denied, unread, ends}
 use Rattle.carry.proofs.carrying.book_entries.Needs as need
@@ -20,24 +20,25 @@ returns-in-Break-entry c =
     let e = unread (c .args .n) (progress (c .loop-booked .reader)) _ (view (c .loop-booked .booked)) _ (c .in-Break-entry .ensures tt) in
     rw (p .1, p .2) (inr (sym (c .loop-booked .inv .0 ∙ e)))
 
-pub returns-in-Err : need.returns-in-Err
-returns-in-Err c =
+pub returns-in-Break-within : need.returns-in-Break-within
+returns-in-Break-within c =
+    let p = err-from-errBy (c .from-residual-in-Break-within .result) (c .from-residual-in-Break-within .ensures .1) in
     let q = progress (c .loop-booked .reader) in
     let q′ = progress (c .read .last .self) in
     let b = view (c .loop-booked .booked) in
     let x = itemOf (c .in-Some .entry) in
-    let f = c .in-Err .fault in
+    let f = c .in-Break-within .field-0 .0 in
     let h = subst (λ o. _≡_ {A = Pace} (seen (Ok o), q′) (advanced q)) (c .in-Some .is) (c .in-Continue-entry .ensures tt) in
     let w = steps q q′ x h in
     let place : c .part .result .place ≡ q .next + 1 =
-    ap (λ (p : Place). p .place) (c .part .ensures) ∙ ap (λ (p : Place). p .place) (step-part (q .sheet) (q .next) (q .stage) (q′ .stage) x (w .1)) in
-    let at = c .at .ensures ∙ ap (λ i. met i f) place in
-    let d = c .in-Err .ensures tt .1 in
-    ⊎-elim (λ e. inl (ap Err (at ∙ ap (met (q .next + 1)) e)))
-    (λ e. inr (ap Err at ∙ sym (c .loop-booked .inv .0 ∙ denied (c .args .n) q q′ b x f h (subst (λ y. carriedOut (c .args .n) y b ≡ Err f) (c .said .ensures) e)))) d
+    ap (λ (y : Place). y .place) (c .part .ensures) ∙ ap (λ (y : Place). y .place) (step-part (q .sheet) (q .next) (q .stage) (q′ .stage) x (w .1)) in
+    let d = booked-err (c .part .result .place) (c .carry-out .result) b (view (c .carry-out .last .self)) (carriedOut (c .args .n) (c .said .result) b) f (c .in-Break-within .ensures tt) (c .carry-out .ensures) in
+    rw (p .1, p .2)
+    (⊎-elim (λ e. inl (ap Err e))
+    (λ g. inr (ap Err (g .2 ∙ ap (λ i. met i (g .0)) place) ∙ sym (c .loop-booked .inv .0 ∙ denied (c .args .n) q q′ b x (g .0) h (subst (λ y. carriedOut (c .args .n) y b ≡ Err (g .0)) (c .said .ensures) (g .1))))) d)
 
 -- what the reader did, where the entry was carried out
-module _ (c : need.In-rest-carry-out) where
+module _ (c : need.In-Continue-within) where
   paced : _≡_ {A = Pace} (Ok (Some (itemOf (c .in-Some .entry))), progress (c .read .last .self)) (advanced (progress (c .loop-booked .reader)))
   paced = subst (λ o. _≡_ {A = Pace} (seen (Ok o), progress (c .read .last .self)) (advanced (progress (c .loop-booked .reader)))) (c .in-Some .is) (c .in-Continue-entry .ensures tt)
 
@@ -53,7 +54,7 @@ loop-booked-again c =
     let b = view (c .loop-booked .booked) in
     let b′ = view (c .carry-out .last .self) in
     let x = itemOf (c .in-Some .entry) in
-    let d = subst (λ y. carriedOut (c .args .n) y b ≡ Ok b′) (c .said .ensures) (c .in-rest-carry-out .ensures tt) in (
+    let d = subst (λ y. carriedOut (c .args .n) y b ≡ Ok b′) (c .said .ensures) (booked-ok (c .part .result .place) (c .carry-out .result) b b′ (carriedOut (c .args .n) (c .said .result) b) _ (c .in-Continue-within .ensures tt) (c .carry-out .ensures)) in (
       c .loop-booked .inv .0 ∙ goes (c .args .n) q q′ b x b′ (paced c) d,
       still-counted (c .args .n) (x .says) b b′ d (c .loop-booked .inv .1),
     )
