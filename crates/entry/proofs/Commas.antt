@@ -25,7 +25,7 @@ with-more : (found : List ℤ) (x : ℤ) (r : Result (List ℤ) Fault) → with 
 with-more found x (Ok xs) = ap Ok (sym (append-assoc found (x ∷ []) xs))
 with-more found x (Err f) = refl
 
-no-more : (k : ℕ) → numbersOf (suc k) [] ≡ Err (EntryForm 0)
+pub no-more : (k : ℕ) → numbersOf (suc k) [] ≡ Err (EntryForm 0)
 unfolding numbersOf
 no-more zero = refl
 no-more (suc k) = refl

@@ -1,3 +1,5 @@
 pub mod Commas
 pub mod Formless
+pub mod Rows
 pub mod Spelling
+pub mod Spelt

@@ -71,7 +71,7 @@ digits-from n a b =
     let s = shaped (decimal n) (decimal-some n w) (length-decimal-le 7 n (omega arith) b w) (first-decimal n a w) in
     rw s (back 0 (decimal n) (digits-decimal own n w) ∙ ap Some (value-decimal own n w))
 
-rest-is : (bs : List ℕ) → between 1 (length bs) bs ≡ drop 1 bs
+pub rest-is : (bs : List ℕ) → between 1 (length bs) bs ≡ drop 1 bs
 rest-is bs = between-to-end bs 1 (length bs) (omega arith)
 
 single : (bs : List ℕ) → (eqb (length bs) 1 && eqb (getD bs 0 0) 48) ≡ true → bs ≡ 48 ∷ []

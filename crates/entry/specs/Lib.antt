@@ -2,3 +2,4 @@ pub mod Numbers
 pub mod Printed
 pub mod Forms
 pub mod Entries
+pub mod Spelled

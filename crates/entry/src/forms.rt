@@ -1,6 +1,7 @@
 // The form of each letter.
 ghost use mathlib.Core.Path.{_≡_};
 ghost use Rattle.entry.specs.Forms.{markOf, planOf, saidOf};
+ghost use Rattle.entry.specs.Spelled.{Spelled};
 use crate::kinds::Plan;
 use crate::kinds::Said;
 use crate::numbers::numbers;
@@ -57,8 +58,7 @@ fn mark(text: &[u8]) -> Result<bool, Fault>
     }
 }
 
-// What the text of an entry says: a letter directly followed by what its form asks.
-pub fn said(text: &[u8]) -> Result<Said, Fault>
+fn said_by_letter(text: &[u8]) -> Result<Said, Fault>
     ensures { λ r. ⌜ r ≡ saidOf (now (text .entry)) ⌝ }
 {
     if text.len() == 0 {
@@ -87,4 +87,12 @@ pub fn said(text: &[u8]) -> Result<Said, Fault>
             Ok(Said::Planned(plan))
         }
     }
+}
+
+// What the text of an entry says: a letter directly followed by what its form asks.
+pub fn said(text: &[u8]) -> Result<Said, Fault>
+    ensures value { λ r. ⌜ r ≡ saidOf (now (text .entry)) ⌝ }
+    ensures spelled { λ r. ⌜ Spelled (now (text .entry)) r ⌝ }
+{
+    said_by_letter(text)
 }
