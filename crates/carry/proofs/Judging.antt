@@ -14,6 +14,7 @@ use Rattle.std.specs.declared.option.Option.the-variants.{Some, None}
 use Rattle.std.specs.declared.result.Result.{Result}
 use Rattle.std.specs.declared.result.Result.the-variants.{Ok, Err}
 use Rattle.std.specs.shelf.Lists.{All}
+use Rattle.fault.proofs.Passed.{located-ok, then-ok}
 use Rattle.fault.specs.Located.{located, then}
 use Rattle.fault.specs.declared.Fault.{Fault}
 use Rattle.fault.specs.declared.Fault.the-variants.{PlanConstant, PlannedNumber}
@@ -39,14 +40,6 @@ use Rattle.carry.specs.Carrying.{Came, Lot, blank, booksFrom, booksOf, closed,
 use Rattle.carry.specs.Carrying.Came.{judged-lot, not-yet}
 use Rattle.carry.specs.Judged.{JudgedBySheet, Right, readings}
 use Rattle.carry.proofs.Bookings.{drum-kept, entered-ok}
-
-then-ok : {X Y : Type 0} (g : X → Result Y Fault) (r : Result X Fault) (y : Y) → then g r ≡ Ok y → (x : X) × (r ≡ Ok x) × (g x ≡ Ok y)
-then-ok g (Ok x) y h = (x, refl, h)
-then-ok g (Err f) y h = let z : _≡_ {A = ℕ} 0 1 = cc in absurd (omega arith)
-
-located-ok : {X : Type 0} (i : ℕ) (r : Result X Fault) (x : X) → located i r ≡ Ok x → r ≡ Ok x
-located-ok i (Ok y) x h = h
-located-ok i (Err f) x h = let z : _≡_ {A = ℕ} 0 1 = cc in absurd (omega arith)
 
 -- what one entry books: its reading, if it is one
 abbrev of : Said → List ℤ

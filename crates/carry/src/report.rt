@@ -3,7 +3,7 @@ use entry::Plan;
 use method::verdict::Verdict;
 
 // A drum, by its name and the number of its readings.
-#[derive(Clone, Copy, PartialEq, Eq, Debug)]
+#[derive(Clone, Copy)]
 pub struct Drum {
     pub name: u32,
     pub count: u32,

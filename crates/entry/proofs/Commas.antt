@@ -8,22 +8,11 @@ use lib.ListN.{length, set, take, drop, length-set}
 use Rattle.std.proofs.shelf.Lists.{take-more-set, take-all}
 use Rattle.std.specs.declared.result.Result.{Result}
 use Rattle.std.specs.declared.result.Result.the-variants.{Ok, Err}
+use Rattle.fault.proofs.Passed.{with, with-more, with-none}
 use Rattle.fault.specs.Located.{then}
 use Rattle.fault.specs.declared.Fault.{Fault}
 use Rattle.fault.specs.declared.Fault.the-variants.{EntryForm}
 use Rattle.entry.specs.Numbers.{numberOf, comma, before, behind, numbersOf}
-
--- the numbers found so far, and those still to come
-abbrev pub with : List ℤ → Result (List ℤ) Fault → Result (List ℤ) Fault
-with found r = then (λ xs. Ok (found ++ xs)) r
-
-pub with-none : (r : Result (List ℤ) Fault) → r ≡ with [] r
-with-none (Ok xs) = refl
-with-none (Err f) = refl
-
-with-more : (found : List ℤ) (x : ℤ) (r : Result (List ℤ) Fault) → with found (then (λ xs. Ok (x ∷ xs)) r) ≡ with (found ++ x ∷ []) r
-with-more found x (Ok xs) = ap Ok (sym (append-assoc found (x ∷ []) xs))
-with-more found x (Err f) = refl
 
 pub no-more : (k : ℕ) → numbersOf (suc k) [] ≡ Err (EntryForm 0)
 unfolding numbersOf

@@ -17,6 +17,7 @@ use Rattle.std.specs.Written.{decimal, signed}
 use Rattle.std.specs.shelf.Lists.{All}
 use Rattle.std.specs.declared.result.Result.{Result}
 use Rattle.std.specs.declared.result.Result.the-variants.{Ok, Err}
+use Rattle.fault.proofs.Passed.{then-ok}
 use Rattle.fault.specs.Located.{then}
 use Rattle.fault.specs.declared.Fault.{Fault}
 use Rattle.entry.specs.Numbers.{numberOf, numbersOf, comma, before, behind}
@@ -72,12 +73,6 @@ module _ (x : ℤ) (t : List ℕ) (s : Short x) where
 
   behind-first : behind (signed x ++ 44 ∷ t) ≡ t
   behind-first = behind-is (signed x ++ 44 ∷ t) ∙ ap (λ n. drop (suc n) (signed x ++ 44 ∷ t)) (comma-signed x t s) ∙ past (signed x) t
-
--- from an answer to the text, and back
-
-pub then-ok : {X Y : Type 0} (g : X → Result Y Fault) (r : Result X Fault) (y : Y) → then g r ≡ Ok y → (x : X) × (r ≡ Ok x) × (g x ≡ Ok y)
-then-ok g (Ok x) y h = (x, refl, h)
-then-ok g (Err f) y h = let z : _≡_ {A = ℕ} 0 1 = cc in absurd (omega arith)
 
 commas-more : (x : ℤ) (xs : List ℤ) → 0 < length xs → commas (x ∷ xs) ≡ signed x ++ 44 ∷ commas xs
 commas-more x [] h = absurd (omega arith)

@@ -21,7 +21,8 @@ use Rattle.entry.specs.Numbers.{numbersOf}
 use Rattle.entry.specs.Forms.{nth, planOf, markOf, formOf, saidOf}
 use Rattle.entry.specs.Printed.{Short}
 use Rattle.entry.specs.Spelled.{commas, numbersIn, spelled, Spelled}
-use Rattle.entry.proofs.Rows.{then-ok, row-reads, row-spells}
+use Rattle.fault.proofs.Passed.{then-ok}
+use Rattle.entry.proofs.Rows.{row-reads, row-spells}
 use Rattle.entry.proofs.Spelling.{rest-is}
 
 -- the first k numbers by their places

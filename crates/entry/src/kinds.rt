@@ -11,7 +11,7 @@ pub struct Part<'a> {
 }
 
 // A plan with its numbers as they stand on the sheet.
-#[derive(Clone, Copy, PartialEq, Eq, Debug)]
+#[derive(Clone, Copy)]
 pub enum Plan {
     Known {
         n: i32,
@@ -50,7 +50,7 @@ pub enum Plan {
 }
 
 // What an entry says, without its part of a sheet.
-#[derive(Clone, Copy, PartialEq, Eq, Debug)]
+#[derive(Clone, Copy)]
 pub enum Said {
     Planned(Plan),
     Drum(i32),

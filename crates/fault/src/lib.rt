@@ -4,7 +4,7 @@ ghost use Rattle.fault.specs.Faults.{entry, layer, met, number};
 ghost use Rattle.fault.specs.Located.{located};
 
 // Where a refusal comes from.
-#[derive(Clone, Copy, PartialEq, Eq, Debug)]
+#[derive(Clone, Copy)]
 pub enum Layer {
     Sheet,
     Entry,
@@ -14,7 +14,7 @@ pub enum Layer {
 }
 
 // What was refused, with the entry at which it was met: 0 where the call had no sheet.
-#[derive(Clone, Copy, PartialEq, Eq, Debug)]
+#[derive(Clone, Copy, Debug)]
 pub enum Fault {
     SheetSize,
     EntryPlace(u16),

@@ -10,6 +10,7 @@ use Rattle.std.specs.declared.option.Option.{Option}
 use Rattle.std.specs.declared.option.Option.the-variants.{Some, None}
 use Rattle.std.specs.declared.result.Result.{Result}
 use Rattle.std.specs.declared.result.Result.the-variants.{Ok, Err}
+use Rattle.fault.proofs.Passed.{with, with-more}
 use Rattle.fault.specs.Located.{then}
 use Rattle.fault.specs.declared.Fault.{Fault}
 use Rattle.entry.specs.declared.kinds.Said.{Said}
@@ -17,18 +18,6 @@ use Rattle.sheet.specs.Order.{followed}
 use Rattle.sheet.specs.Reading.{Item, Progress, advanced, entryAt, item, moved, placeAt, standing, stepAt}
 use Rattle.sheet.specs.Sheets.{itemsFrom}
 use Rattle.sheet.specs.declared.order.Stage.{Stage}
-
--- the entries found so far, and those still to come
-abbrev pub with : List Item → Result (List Item) Fault → Result (List Item) Fault
-with found r = then (λ xs. Ok (found ++ xs)) r
-
-pub with-none : (r : Result (List Item) Fault) → r ≡ with [] r
-with-none (Ok xs) = refl
-with-none (Err f) = refl
-
-pub with-more : (found : List Item) (x : Item) (r : Result (List Item) Fault) → with found (then (λ xs. Ok (x ∷ xs)) r) ≡ with (found ++ x ∷ []) r
-with-more found x (Ok xs) = ap Ok (sym (append-assoc found (x ∷ []) xs))
-with-more found x (Err f) = refl
 
 abbrev pub Pace : Type 0
 Pace = Result (Option Item) Fault × Progress

@@ -22,7 +22,7 @@ use Rattle.entry.specs.Forms.{saidOf}
 use Rattle.entry.specs.declared.kinds.Said.{Said}
 use Rattle.sheet.proofs.Orders.{Reached, reached-more, reached-order, reached-stops}
 use Rattle.sheet.proofs.Places.{apart, first-misplaced, none-misplaced, part-size, placed-is, placed-true, sized-is, unplaced, unsized}
-use Rattle.sheet.proofs.Runs.{with, with-more, with-none}
+use Rattle.fault.proofs.Passed.{with, with-more, with-none}
 use Rattle.sheet.specs.Order.{followed}
 use Rattle.sheet.specs.Reading.{Item, entryAt, item, placeAt, standing, stepAt}
 use Rattle.sheet.specs.Rules.{Begins, Lies, Ordered, Placed, Read, Refused, Sized, Taken, says}

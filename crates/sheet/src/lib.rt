@@ -4,7 +4,5 @@ mod reader;
 mod table;
 mod whole;
 
-pub use order::Kind;
-pub use order::Stage;
 pub use reader::Reader;
 pub use whole::entries;

@@ -11,7 +11,8 @@ use Rattle.std.proofs.shelf.Results.{err-from-errBy}
 use Rattle.std.specs.Holes.{between}
 use Rattle.std.specs.declared.result.Result.the-variants.{Ok}
 use Rattle.entry.specs.Numbers.{comma, before, behind, numberOf, numbersOf}
-use Rattle.entry.proofs.Commas.{with, with-none, stops, ends-early, goes, last-stops, ends}
+use Rattle.fault.proofs.Passed.{with, with-none}
+use Rattle.entry.proofs.Commas.{stops, ends-early, goes, last-stops, ends}
 use Rattle.entry.proofs.numbers.numbers.Needs as need
 
 whole : (x : ℤ) → natAbs x < 10 ^ 7 → toZ w32 (ofZ w32 x) ≡ x

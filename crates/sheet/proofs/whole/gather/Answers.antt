@@ -11,7 +11,7 @@ use Rattle.std.specs.declared.option.Option.the-variants.{Some, None}
 use Rattle.std.specs.declared.result.Result.the-variants.{Ok, Err}
 use Rattle.sheet.specs.Reading.{Item, advanced, itemOf, progress, seen, stepAt}
 use Rattle.sheet.specs.Sheets.{itemsFrom, sheetOf}
-use Rattle.sheet.proofs.Runs.{Pace, with, with-none, steps, stops, refuses, goes, ends-in, ends}
+use Rattle.sheet.proofs.Runs.{Pace, steps, stops, refuses, goes, ends-in, ends}
 use Rattle.sheet.proofs.whole.gather.Needs as need
 
 pub returns-in-Break-entry : need.returns-in-Break-entry

@@ -4,7 +4,7 @@ use Prim.Native.Nat.{_-_}
 use Rattle.std.specs.Of.Vec.{vec-items}
 use Rattle.sheet.specs.Reading.{itemOf}
 use Rattle.sheet.specs.Sheets.{itemsFrom, sheetOf}
-use Rattle.sheet.proofs.Runs.{with}
+use Rattle.fault.proofs.Passed.{with}
 use Rattle.sheet.proofs.whole.gather.Given as given
 
 abbrev pub Inv-loop-found : given.InvT-loop-found
