@@ -1,0 +1,4 @@
+pub mod Shows
+pub mod Written
+pub mod Edits
+pub mod Follows
