@@ -1,4 +1,7 @@
-// Settled sheets, and what each of them comes to when it is carried out.
+// Settled sheets, and what each of them comes to when it is carried out; and what a bench refuses.
+#[cfg(test)]
+mod bench_tests;
+
 #[cfg(test)]
 mod tests {
     use carry::Outcome;
