@@ -1,4 +1,6 @@
 // Inspection by attributes: tallies of marks, and the method of marks.
+#![tactic(auto)]
+
 pub mod counts;
 pub mod marks;
 pub mod tally;

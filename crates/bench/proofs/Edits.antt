@@ -1,16 +1,14 @@
 -- What adding to a line, removing a line and a new line do to the lines and to the row that shows them.
-use Rattle.std.proofs.Common.{◌≡◌, ℕ, zero, suc, ◌+◌, ◌-◌, ◌<◌, ◌≤◌, Bool, true, false, cond, not, ◌&&◌, ◌||◌, eqb, ltb, leb, ◌⊎◌, List, [], ◌∷◌, ◌++◌, map, length, get_or, take, drop, set, replicate, sym, refl, ap, ◌∙◌, subst, inl, inr, ⊎_elim, arith}
+use Rattle.std.proofs.Common.{◌≡◌, ℕ, suc, ◌+◌, true, false, cond, ◌||◌, eqb, List, [], ◌∷◌, ◌++◌, map, length, get_or, take, drop, set, replicate, sym, refl, ap, ◌∙◌, ⊎_elim, arith}
 use Rattle.std.specs.List.{AllByRecursion as All}
-use Rattle.std.proofs.lemmas.List.{length-append, length-map, length-replicate, append_assoc, append-nil, set_at, map_push, replicate_more}
+use Rattle.std.proofs.lemmas.List.{length-append, length-map, append_assoc, set_at, map_push, replicate_more}
 use Rattle.std.proofs.ByRecursion.{All-append}
-use Rattle.std.proofs.lemmas.Bool.{cond-true, cond-false, cond_both, eq-eqb, ne_eqb, eqb-true, or_from, or_parts, or_left, or_right, cases_Bool, both_ways}
+use Rattle.std.proofs.lemmas.Bool.{cond-true, cond-false, eq-eqb, ne_eqb, eqb-true, or_from, or_parts, cases_Bool, both_ways}
 use Rattle.method.specs.Meaning.{Meaning, Laws, Taken}
 use Rattle.rows.specs.declared.page.Page.{Page}
 use Rattle.rows.specs.Pages as rows
-use Rattle.rows.specs.Checks.{checked, fits, in_order, once, room}
-use Rattle.rows.specs.Joining.{sum_of}
 use Rattle.rows.specs.Pages.{page}
-use Rattle.bench.specs.Calls.{admitted, after, at, blank_page, closed, named, opened, poured, read, struck, struck_at, told}
+use Rattle.bench.specs.Calls.{blank_page, struck_at}
 use Rattle.bench.specs.Ledger.{Line, line, is_open, standing, readings_of, add, remove, Apart, page_of, row}
 
 module _ {R : Type 0} where

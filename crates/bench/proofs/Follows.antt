@@ -1,23 +1,23 @@
 -- Each call on pages that show lines answers as the ledger does, and leaves pages that show the ledger's next lines.
-use Rattle.std.proofs.Common.{◌≡◌, ℕ, zero, suc, ◌+◌, ◌-◌, ◌<◌, ◌≤◌, Bool, true, false, cond, not, ◌&&◌, ◌||◌, eqb, ltb, leb, ◌⊎◌, List, [], ◌∷◌, ◌++◌, map, length, get_or, take, drop, set, replicate, Ok, Err, Result, sym, refl, ap, ◌∙◌, subst, inl, inr, ⊎_elim, arith}
+use Rattle.std.proofs.Common.{◌≡◌, ℕ, zero, suc, ◌+◌, ◌-◌, ◌<◌, ◌≤◌, Bool, true, false, cond, ◌&&◌, eqb, ltb, leb, List, [], ◌∷◌, ◌++◌, length, set, replicate, Ok, Err, Result, sym, refl, ap, ◌∙◌, subst, ⊎_elim, arith}
 use Rattle.std.specs.List.{AllByRecursion as All}
 use Rattle.std.proofs.lemmas.List.{length-append, length-set, append-nil, append_assoc}
 use Rattle.std.proofs.ByRecursion.{All-push, All-append}
-use Rattle.std.proofs.lemmas.Bool.{cond-true, cond-false, eq-eqb, ne_eqb, eqb-true, eqb-false, le-leb, leb-true, lt-ltb, le-ltb, ltb-true, ltb-false, and_parts, cases_Bool, both_ways}
+use Rattle.std.proofs.lemmas.Bool.{cond-true, cond-false, eq-eqb, ne_eqb, eqb-false, le-leb, leb-true, ltb-true, ltb-false, and_parts, cases_Bool}
 use Rattle.fault.specs.Located.{then}
 use Rattle.fault.specs.declared.Fault.{Fault}
-use Rattle.fault.specs.declared.Fault.TheVariants.{NameNotOpen, NameOpen, NameRange, PlanFull, PlannedNumber, PouredOntoItself, PouredPastPlan, ReadingNotTaken, ReadingsMissing, RowFull, RowInconsistent, RowSize, TallyFull}
+use Rattle.fault.specs.declared.Fault.TheVariants.{PlanFull, PlannedNumber, ReadingNotTaken, ReadingsMissing, RowInconsistent, RowSize, TallyFull}
 use Rattle.method.specs.Meaning.{Meaning, Laws, Taken}
 use Rattle.method.specs.Answers.{entered, joined}
 use Rattle.rows.specs.declared.page.Page.{Page}
 use Rattle.rows.specs.Pages as rows
-use Rattle.rows.specs.Checks.{checked, fits, in_order, once, room}
+use Rattle.rows.specs.Checks.{checked}
 use Rattle.rows.specs.Joining.{sum_of}
 use Rattle.rows.specs.Pages.{page}
 use Rattle.bench.specs.Calls.{admitted, after, at, blank_page, closed, named, opened, poured, read, struck, struck_at, told}
-use Rattle.bench.specs.Ledger.{Line, line, is_open, standing, readings_of, add, remove, Apart, page_of, row, Shows, Sound, Holds, opening, reading, striking, pouring}
-use Rattle.bench.proofs.Shows.{named_not_0, length_row, found, place_open, place_blank, checked_row}
-use Rattle.bench.proofs.Edits.{apart_push, standing_push, open_add, apart_add, names_add, standing_add, readings_add, apart_remove, all_remove, standing_remove, length_remove, length_add, taken_add, taken_of, taken_standing, numbers_of, place_add, shown_add, shown_remove, shown_push}
+use Rattle.bench.specs.Ledger.{Line, line, is_open, standing, readings_of, add, remove, row, Shows, Sound, Holds, opening, reading, striking, pouring}
+use Rattle.bench.proofs.Shows.{named_not_0, length_row, found, place_blank, checked_row}
+use Rattle.bench.proofs.Edits.{apart_push, standing_push, open_add, apart_add, names_add, standing_add, readings_add, apart_remove, all_remove, standing_remove, length_remove, length_add, taken_add, taken_of, numbers_of, place_add, shown_add, shown_remove, shown_push}
 
 -- first one answer, then the other
 abbrev and_then : {A B : Type 0} → Result A Fault → (A → Result B Fault) → Result B Fault

@@ -1,20 +1,17 @@
 -- Pages that show a ledger's lines: what the check finds on them, and where a name stands.
-use Rattle.std.proofs.Common.{◌≡◌, ℕ, zero, suc, ◌+◌, ◌-◌, ◌<◌, ◌≤◌, Bool, true, false, cond, not, ◌&&◌, ◌||◌, eqb, ltb, leb, ◌⊎◌, List, [], ◌∷◌, ◌++◌, map, length, get_or, take, drop, set, replicate, Some, None, Ok, Err, Option, Result, sym, refl, ap, ◌∙◌, subst, inl, inr, ⊎_elim, arith}
+use Rattle.std.proofs.Common.{◌≡◌, ℕ, zero, suc, ◌+◌, ◌-◌, ◌<◌, ◌≤◌, Bool, true, false, cond, ◌&&◌, ◌||◌, eqb, ltb, leb, List, [], ◌∷◌, map, length, replicate, Some, None, Ok, Err, sym, refl, ap, ◌∙◌, subst, inl, inr, ⊎_elim, arith}
 use Rattle.std.specs.List.{AllByRecursion as All}
 use Rattle.std.specs.Option.{ok_or}
-use Rattle.std.proofs.lemmas.List.{length-append, length-map, length-replicate, append_assoc, append-nil, set_at, map_push}
-use Rattle.std.proofs.lemmas.Bool.{cond-true, cond-false, eq-eqb, ne_eqb, le-leb, lt-leb, le-ltb, lt-ltb, leb-true, eqb-true, and_left, and_right, and_from, and_parts, or_from, or_parts, or_left, or_right, not_from_false, cases_Bool, both_ways}
-use Rattle.fault.specs.Located.{then}
-use Rattle.fault.specs.declared.Fault.{Fault}
-use Rattle.fault.specs.declared.Fault.TheVariants.{NameNotOpen, NameOpen, NameRange, PlanFull, PlannedNumber, PouredOntoItself, PouredPastPlan, ReadingNotTaken, ReadingsMissing, RowFull, RowInconsistent, RowSize, TallyFull}
+use Rattle.std.proofs.lemmas.List.{length-append, length-map, length-replicate}
+use Rattle.std.proofs.lemmas.Bool.{cond-true, cond-false, eq-eqb, ne_eqb, le-leb, le-ltb, lt-ltb, leb-true, and_from, and_parts, or_parts, or_right, cases_Bool, both_ways}
+use Rattle.fault.specs.declared.Fault.TheVariants.{RowInconsistent, RowSize}
 use Rattle.method.specs.Meaning.{Meaning, Laws, Taken}
 use Rattle.rows.specs.declared.page.Page.{Page}
 use Rattle.rows.specs.Pages as rows
 use Rattle.rows.specs.Checks.{checked, fits, in_order, once, room}
-use Rattle.rows.specs.Joining.{sum_of}
 use Rattle.rows.specs.Pages.{page}
-use Rattle.bench.specs.Calls.{admitted, after, at, blank_page, closed, named, opened, poured, read, struck, struck_at, told}
-use Rattle.bench.specs.Ledger.{Line, line, is_open, standing, Apart, page_of, row, Shows, Sound}
+use Rattle.bench.specs.Calls.{blank_page, named}
+use Rattle.bench.specs.Ledger.{Line, is_open, standing, Apart, page_of, row, Shows, Sound}
 use Rattle.rows.proofs.Steps.{fits_yes}
 
 pub named_not_0 : (x : ℕ) → named x ≡ true → x ≡ 0 → ⊥

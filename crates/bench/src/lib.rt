@@ -1,4 +1,6 @@
 // The bench: its calls on a lent row of pages, and the closed lot.
+#![tactic(auto)]
+
 ghost use Rattle.std.specs.Prelude.{◌≡◌, ◌<◌, ◌≤◌, true, false, List, [], length, replicate, IfOk, if◌then◌else◌, Ok, Err, MatchResult, nat_le};
 ghost use Rattle.bench.specs.Calls.{admitted, after, blank_page, closed, named, opened, poured, read as read_row, struck, told};
 ghost use Rattle.bench.specs.Ledger.{Follows, Holds, Line, Sound, opening, pouring, reading as entering, standing, striking};

@@ -1,4 +1,6 @@
 // Two methods of inspection on one kind of reading, as one.
+#![tactic(auto)]
+
 ghost use Rattle.std.specs.Prelude.{◌&&◌};
 ghost use Rattle.both.specs.Both.{both, both_laws};
 ghost use Rattle.both.specs.Tallies.{both_decided};

@@ -1,4 +1,6 @@
 // Carries a sheet out: what the judging program does, as a library call.
+#![tactic(auto)]
+
 mod booked;
 mod carrying;
 mod report;

@@ -23,9 +23,9 @@ module _ {R X : Type 0} (m : Meaning R X) (n : ℕ) (ls : List (Line R)) where
 pub judged_after : {R X : Type 0} (m : Meaning R X) (f : Said → Option R) (size n : ℕ) (q : Progress) (r : Result Verdict Fault) → Ok tt ≡ (under m f size n q).1 → r ≡ verdict_on m n (under m f size n q).0 → r ≡ verdict_after m f size n q
 judged_after m f size n q r e h = rw (← e) h
 
-module _ {R X : Type 0} (m : Meaning R X) (f : Said → Option R) (n : ℤ) (q : Progress) (size : ℕ) (set-up : ready m size n ≡ Ok tt) where
+module _ {R X : Type 0} (m : Meaning R X) (f : Said → Option R) (n : ℤ) (q : Progress) (size : ℕ) (set_up : ready m size n ≡ Ok tt) where
   pub lot_as : (r : Result Verdict Fault) → r ≡ verdict_after m f size (natural n) q → r ≡ lot_under m f size n q
-  lot_as r h = rw set-up h
+  lot_as r h = rw set_up h
 
   pub left_as : (st : X → Bool) (ps qs : List (Page X)) → Holds m st (natural n) (under m f size (natural n) q).0 qs → Shown m f st size n q (ready m size n) ps qs
-  left_as st ps qs h = subst (λ z. Shown m f st size n q z ps qs) (sym set-up) h
+  left_as st ps qs h = subst (λ z. Shown m f st size n q z ps qs) (sym set_up) h

@@ -1,4 +1,6 @@
 // The criteria of inspection by variables: deviation known, deviation unknown, and the mean.
+#![tactic(auto)]
+
 mod constants;
 pub mod known;
 pub mod mean;

@@ -1,4 +1,6 @@
 // The text of an entry: its letter, its numbers, and what they say.
+#![tactic(auto)]
+
 mod forms;
 mod kinds;
 mod numbers;

@@ -1,4 +1,6 @@
 // Every refusal of the product: what was refused, in which layer, and at which entry of a sheet.
+#![tactic(auto)]
+
 ghost use Rattle.std.specs.Prelude.{◌≡◌};
 ghost use Rattle.fault.specs.Faults.{entry, layer, met, number};
 ghost use Rattle.fault.specs.Located.{located};

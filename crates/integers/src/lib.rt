@@ -1,1 +1,2 @@
 // Facts about whole numbers that the library lacks; they stand in specs/, and there are no functions.
+#![tactic(auto)]

@@ -1,4 +1,6 @@
 // Reads one sheet from standard input, and prints its plan, its drums and the verdict, or the refusal.
+#![tactic(auto)]
+
 use carry::{Outcome, Report, carry};
 use entry::Plan;
 use fault::Fault;

@@ -1,9 +1,9 @@
 -- What the laws give of totals: order does not matter.
-use Rattle.std.proofs.Common.{◌≡◌, ℕ, zero, suc, ◌+◌, ◌<◌, ◌≤◌, Bool, true, List, [], ◌∷◌, ◌++◌, length, get_or, take, drop, set, sym, refl, ap, ◌∙◌, arith}
+use Rattle.std.proofs.Common.{◌≡◌, ℕ, zero, suc, ◌<◌, true, List, [], ◌∷◌, length, get_or, set, sym, refl, ap, ◌∙◌, arith}
 use Rattle.std.specs.List.Sorted.{IsPermutation}
-use Rattle.std.specs.List.{swap, AllByRecursion as All}
-use Rattle.std.proofs.lemmas.List.Sorted.{IsPermutation-keeps, length_permutation}
-use Rattle.std.proofs.ByRecursion.{all_shuffled, All-set, All-get_or}
+use Rattle.std.specs.List.{swap}
+use Rattle.std.proofs.lemmas.List.Sorted.{IsPermutation-keeps}
+use Rattle.std.proofs.ByRecursion.{All-set, All-get_or}
 use Rattle.method.specs.Meaning.{Meaning, Laws, Taken}
 
 module _ {R X : Type 0} (m : Meaning R X) (laws : Laws m) where

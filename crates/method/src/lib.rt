@@ -1,4 +1,6 @@
 // What every method of inspection has: readings, a tally of them, and a verdict from the tally.
+#![tactic(auto)]
+
 ghost use Rattle.std.specs.Prelude.{◌≡◌, Bool, []};
 ghost use Rattle.method.specs.Answers.{entered, given, joined};
 ghost use Rattle.method.specs.Meaning.{Decides, Laws, Made, Meaning};

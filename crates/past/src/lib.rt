@@ -1,4 +1,6 @@
 // Pasts of a bench: any calls in any order, and what holds after them.
+#![tactic(auto)]
+
 mod calls;
 mod plan;
 

@@ -1,4 +1,6 @@
 // The method of each plan: a criterion on readings, the marks, or a pile of layers over one of these.
+#![tactic(auto)]
+
 ghost use Rattle.std.specs.Prelude.{◌≡◌, pos};
 ghost use Rattle.attributes.specs.Marks.{marks as marks_method};
 ghost use Rattle.both.specs.Both.{both};

@@ -1,4 +1,6 @@
 // A lent row of pages: finding a name, checking the row, joining its tallies, writing and shifting its pages.
+#![tactic(auto)]
+
 mod checking;
 mod edits;
 mod finding;

@@ -1,4 +1,6 @@
 // Settled sheets, and what each of them comes to when it is carried out; and what a bench refuses.
+#![tactic(auto)]
+
 #[cfg(test)]
 mod bench_tests;
 

@@ -1,4 +1,6 @@
 // Settled sheets, and what each of them comes to when it is carried out; what a bench refuses; methods by themselves.
+#![tactic(auto)]
+
 #[cfg(test)]
 mod bench_tests;
 #[cfg(test)]

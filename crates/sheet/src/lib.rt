@@ -1,4 +1,6 @@
 // A sheet: its table, the order of its entries, and the reader that hands them out.
+#![tactic(auto)]
+
 mod order;
 mod reader;
 mod table;

@@ -1,4 +1,6 @@
 // Layers that pass each reading on, in another form, to a method below.
+#![tactic(auto)]
+
 ghost use Rattle.std.specs.Prelude.{◌≡◌};
 ghost use Rattle.through.specs.Through.{through, through_laws};
 ghost use Rattle.std.proofs.Common.{rules};

@@ -1,4 +1,6 @@
 // Carries lots of every plan out on a bench, and holds each verdict to a second calculation.
+#![tactic(auto)]
+
 mod chance;
 mod counted;
 mod desk;

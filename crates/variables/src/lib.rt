@@ -1,4 +1,6 @@
 // Inspection by variables: tallies of readings, and the method of unknown deviation.
+#![tactic(auto)]
+
 pub mod criterion;
 pub mod inspection;
 pub mod reading;

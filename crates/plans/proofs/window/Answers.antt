@@ -17,29 +17,29 @@ use Rattle.plans.proofs.Limits.{le_to, small, turned_back, turned_fits, upper_ok
 use Rattle.plans.proofs.Made.{as_made, as_refused, granted, refused}
 use Rattle.plans.proofs.window.Goals as goal
 
-pub returns-in-err-first : goal.returns-in-err-first
-returns-in-err-first c =
+pub returns-in_err-first : goal.returns-in_err-first
+returns-in_err-first c =
     let p = err_from_is_err_and c.from-residual.result c.from-residual.ensures.1 in
     let a = c.args in
-    let f = c.in-err-first.field-0.0 in
-    let e = rw (to_z-of_z w32 a.lower c.ranges.lower, to_z-of_z w32 a.k c.ranges.k) at c.in-err-first.ensures in
+    let f = c.in_err-first.field-0.0 in
+    let e = rw (to_z-of_z w32 a.lower c.ranges.lower, to_z-of_z w32 a.k c.ranges.k) at c.in_err-first.ensures in
     let d = refused (constants a.lower a.k) (unknown a.lower a.k) f e in
     rw (p.1, p.2) (as_refused (window_constants a.lower a.upper a.k) (window a.lower a.upper a.k) f (window_not a.lower a.upper a.k d.0) d.1)
 
-pub overflow-sub-upper : goal.overflow-sub-upper
-overflow-sub-upper c =
+pub overflow_sub-upper : goal.overflow_sub-upper
+overflow_sub-upper c =
     let u = c.args.upper in
-    let r : reading u ≡ true = sym (rw (to_z-of_z w32 u c.ranges.upper) at c.if-not-is-reading.ensures) in
+    let r : reading u ≡ true = sym (rw (to_z-of_z w32 u c.ranges.upper) at c.if-not-is_reading.ensures) in
     turned_fits u (small u r)
 
-pub returns-in-err-second : goal.returns-in-err-second
-returns-in-err-second c =
+pub returns-in_err-second : goal.returns-in_err-second
+returns-in_err-second c =
     let a = c.args in
     let u = a.upper in
-    let f = c.in-err-second.field-0.0 in
-    let r : reading u ≡ true = sym (rw (to_z-of_z w32 u c.ranges.upper) at c.if-not-is-reading.ensures) in
-    let d = granted (constants a.lower a.k) (unknown a.lower a.k) _ (rw (to_z-of_z w32 a.lower c.ranges.lower, to_z-of_z w32 a.k c.ranges.k) at c.in-ok-first.ensures) in
-    let e = refused (constants (neg_ℤ u) a.k) (unknown (neg_ℤ u) a.k) f (rw (turned_back u (small u r), to_z-of_z w32 a.k c.ranges.k) at c.in-err-second.ensures) in
+    let f = c.in_err-second.field-0.0 in
+    let r : reading u ≡ true = sym (rw (to_z-of_z w32 u c.ranges.upper) at c.if-not-is_reading.ensures) in
+    let d = granted (constants a.lower a.k) (unknown a.lower a.k) _ (rw (to_z-of_z w32 a.lower c.ranges.lower, to_z-of_z w32 a.k c.ranges.k) at c.in_ok-first.ensures) in
+    let e = refused (constants (neg_ℤ u) a.k) (unknown (neg_ℤ u) a.k) f (rw (turned_back u (small u r), to_z-of_z w32 a.k c.ranges.k) at c.in_err-second.ensures) in
     absurd (both_ways (constants (neg_ℤ u) a.k) e.0 (upper_ok a.lower u a.k r d.0))
 
 pub returns : goal.returns
@@ -48,11 +48,11 @@ returns c =
     let l = a.lower in
     let u = a.upper in
     let k = a.k in
-    let r : reading u ≡ true = sym (rw (to_z-of_z w32 u c.ranges.upper) at c.if-not-is-reading.ensures) in
-    let d = granted (constants l k) (unknown l k) _ (rw (to_z-of_z w32 l c.ranges.lower, to_z-of_z w32 k c.ranges.k) at c.in-ok-first.ensures) in
-    let e = granted (constants (neg_ℤ u) k) (unknown (neg_ℤ u) k) _ (rw (turned_back u (small u r), to_z-of_z w32 k c.ranges.k) at c.in-ok-second.ensures) in
+    let r : reading u ≡ true = sym (rw (to_z-of_z w32 u c.ranges.upper) at c.if-not-is_reading.ensures) in
+    let d = granted (constants l k) (unknown l k) _ (rw (to_z-of_z w32 l c.ranges.lower, to_z-of_z w32 k c.ranges.k) at c.in_ok-first.ensures) in
+    let e = granted (constants (neg_ℤ u) k) (unknown (neg_ℤ u) k) _ (rw (turned_back u (small u r), to_z-of_z w32 k c.ranges.k) at c.in_ok-second.ensures) in
     let o : l ≤ℤ u = search rules in
-    let first = c.in-ok-first.first.criterion in
+    let first = c.in_ok-first.first.criterion in
     as_made (window_constants l u k) (window l u k) _ (window_from l u k r (le_to l u o) d.0)
     (ap (λ (m : Meaning ℤ Sums). both m (reversed (unknown c.reversed.result.below.criterion.limit c.reversed.result.below.criterion.k))) d.1
     ∙ ap (λ (x : Variables Unknown). both (unknown l k) (reversed (unknown x.criterion.limit x.criterion.k))) c.reversed.ensures

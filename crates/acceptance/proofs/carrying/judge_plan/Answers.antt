@@ -26,7 +26,7 @@ returns-in-Window c =
     let u = c.in-Window in
     let q = progress a.reader in
     let ps = a.doubles.now in
-    let qs = c.judge-lot-in-Window.new.pages in
+    let qs = c.judge_lot-in-Window.new.pages in
     let d = rows a.singles.now ps a.counts.now in
     let n : to_z w32 (of_z w32 u.n) ≡ u.n = search rules in
     let l : to_z w32 (of_z w32 u.lower) ≡ u.lower = search rules in
@@ -35,6 +35,6 @@ returns-in-Window c =
     let p = rw (l, h, k) at c.window.ensures in
     let pile = window_pile u.lower u.upper u.k in
     record {
-      told = subst (λ (x : Plan). c.judge-lot-in-Window.result ≡ under_plan d x q) (sym u.is) (same_lot _ pile _ u.n q p n c.judge-lot-in-Window.result (length ps) c.judge-lot-in-Window.ensures.told);
-      pages = subst (λ (x : Plan). LeftBehind x q d (rows a.singles.now qs a.counts.now)) (sym u.is) (left_of _ pile _ u.n q p n ps qs c.judge-lot-in-Window.ensures.pages, refl, refl);
+      told = subst (λ (x : Plan). c.judge_lot-in-Window.result ≡ under_plan d x q) (sym u.is) (same_lot _ pile _ u.n q p n c.judge_lot-in-Window.result (length ps) c.judge_lot-in-Window.ensures.told);
+      pages = subst (λ (x : Plan). LeftBehind x q d (rows a.singles.now qs a.counts.now)) (sym u.is) (left_of _ pile _ u.n q p n ps qs c.judge_lot-in-Window.ensures.pages, refl, refl);
     }

@@ -12,7 +12,7 @@ returns g c =
     let st = g.M.Method.stands in
     let ps = c.args.pages.now in
     record {
-      answer = c.open-page.ensures.answer;
-      row = c.open-page.ensures.row;
-      ledger = λ ls h. followed m st l b.n b.high ls ps c.open-page.new.pages c.open-page.result (ledger.opening m b.n (length ps) c.args.name ls) (rows.opened m st b.n c.args.name ps) h (open_agrees m st l b.n b.high ls ps h.shows h.sound c.args.name) c.open-page.ensures.answer c.open-page.ensures.row c.open-page.ensures.sound;
+      answer = c.open_page.ensures.answer;
+      row = c.open_page.ensures.row;
+      ledger = λ ls h. followed m st l b.n b.high ls ps c.open_page.new.pages c.open_page.result (ledger.opening m b.n (length ps) c.args.name ls) (rows.opened m st b.n c.args.name ps) h (open_agrees m st l b.n b.high ls ps h.shows h.sound c.args.name) c.open_page.ensures.answer c.open_page.ensures.row c.open_page.ensures.sound;
     }

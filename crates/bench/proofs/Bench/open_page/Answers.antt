@@ -1,4 +1,4 @@
-use Rattle.std.proofs.Common.{◌≡◌, sym, refl, ap, ◌∙◌, rules}
+use Rattle.std.proofs.Common.{sym, rules}
 use Rattle.method.proofs.Tallies.{a_tally}
 use Rattle.bench.proofs.Written.{sound_set}
 use Rattle.bench.proofs.Bench.open_page.Goals as goal

@@ -12,7 +12,7 @@ returns g c =
     let st = g.M.Method.stands in
     let ps = c.args.pages.now in
     record {
-      answer = c.pour-page.ensures.answer;
-      row = c.pour-page.ensures.row;
-      ledger = λ ls h. followed m st l b.n b.high ls ps c.pour-page.new.pages c.pour-page.result (ledger.pouring m b.n (length ps) c.args.source c.args.goal ls) (rows.poured m st b.n c.args.source c.args.goal ps) h (pour_agrees m st l b.n b.high ls ps h.shows h.sound c.args.source c.args.goal) c.pour-page.ensures.answer c.pour-page.ensures.row c.pour-page.ensures.sound;
+      answer = c.pour_page.ensures.answer;
+      row = c.pour_page.ensures.row;
+      ledger = λ ls h. followed m st l b.n b.high ls ps c.pour_page.new.pages c.pour_page.result (ledger.pouring m b.n (length ps) c.args.source c.args.goal ls) (rows.poured m st b.n c.args.source c.args.goal ps) h (pour_agrees m st l b.n b.high ls ps h.shows h.sound c.args.source c.args.goal) c.pour_page.ensures.answer c.pour_page.ensures.row c.pour_page.ensures.sound;
     }

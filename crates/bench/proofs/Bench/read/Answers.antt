@@ -12,7 +12,7 @@ returns g c =
     let st = g.M.Method.stands in
     let ps = c.args.pages.now in
     record {
-      answer = c.read-page.ensures.answer;
-      row = c.read-page.ensures.row;
-      ledger = λ ls h. followed m st l b.n b.high ls ps c.read-page.new.pages c.read-page.result (ledger.reading m b.n (length ps) c.args.name c.args.reading ls) (rows.read m st b.n c.args.name c.args.reading ps) h (read_agrees m st l b.n b.high ls ps h.shows h.sound c.args.name c.args.reading) c.read-page.ensures.answer c.read-page.ensures.row c.read-page.ensures.sound;
+      answer = c.read_page.ensures.answer;
+      row = c.read_page.ensures.row;
+      ledger = λ ls h. followed m st l b.n b.high ls ps c.read_page.new.pages c.read_page.result (ledger.reading m b.n (length ps) c.args.name c.args.reading ls) (rows.read m st b.n c.args.name c.args.reading ps) h (read_agrees m st l b.n b.high ls ps h.shows h.sound c.args.name c.args.reading) c.read_page.ensures.answer c.read_page.ensures.row c.read_page.ensures.sound;
     }

@@ -12,7 +12,7 @@ returns g c =
     let st = g.M.Method.stands in
     let ps = c.args.pages.now in
     record {
-      answer = c.strike-page.ensures.answer;
-      row = c.strike-page.ensures.row;
-      ledger = λ ls h. followed m st l b.n b.high ls ps c.strike-page.new.pages c.strike-page.result (ledger.striking m b.n (length ps) c.args.name ls) (rows.struck m st b.n c.args.name ps) h (strike_agrees m st l b.n b.high ls ps h.shows h.sound c.args.name) c.strike-page.ensures.answer c.strike-page.ensures.row c.strike-page.ensures.sound;
+      answer = c.strike_page.ensures.answer;
+      row = c.strike_page.ensures.row;
+      ledger = λ ls h. followed m st l b.n b.high ls ps c.strike_page.new.pages c.strike_page.result (ledger.striking m b.n (length ps) c.args.name ls) (rows.struck m st b.n c.args.name ps) h (strike_agrees m st l b.n b.high ls ps h.shows h.sound c.args.name) c.strike_page.ensures.answer c.strike_page.ensures.row c.strike_page.ensures.sound;
     }

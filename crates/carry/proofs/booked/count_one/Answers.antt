@@ -4,8 +4,8 @@ use Rattle.std.proofs.lemmas.List.{set_past}
 use Rattle.carry.specs.declared.report.Drum.{Drum}
 use Rattle.carry.proofs.booked.count_one.Goals as goal
 
-pub overflow-add-drum : goal.overflow-add-drum
-overflow-add-drum c =
+pub overflow_add-drum : goal.overflow_add-drum
+overflow_add-drum c =
     let ds = vec_items c.args.drums.now in
     let d = c.index-drum.result.now in
     let few = All-get_or (λ (x : Drum). x.count ≤ 50) ds c.args.i d (omega arith) c.requires in

@@ -9,33 +9,33 @@ use Rattle.carry.specs.Booking.{carried_out, view}
 use Rattle.carry.proofs.Walks.{goes, denied, unread, ends}
 use Rattle.carry.proofs.carrying.book_entries.Goals as goal
 
-pub returns-in-err-entry : goal.returns-in-err-entry
-returns-in-err-entry c =
+pub returns-in_err-entry : goal.returns-in_err-entry
+returns-in_err-entry c =
     let p = err_from_is_err_and c.from-residual.result c.from-residual.ensures.1 in
-    let e = unread c.args.n (progress c.loop-booked.reader) _ (view c.loop-booked.booked) _ c.in-err-entry.ensures in
+    let e = unread c.args.n (progress c.loop-booked.reader) _ (view c.loop-booked.booked) _ c.in_err-entry.ensures in
     rw (p.1, p.2) (inr (sym (c.loop-booked.invariant.0 ∙ e)))
 
-pub returns-in-err-within : goal.returns-in-err-within
-returns-in-err-within c =
-    let p = err_from_is_err_and c.from-residual-in-err-within.result c.from-residual-in-err-within.ensures.1 in
+pub returns-in_err-within : goal.returns-in_err-within
+returns-in_err-within c =
+    let p = err_from_is_err_and c.from-residual-in_err-within.result c.from-residual-in_err-within.ensures.1 in
     let q = progress c.loop-booked.reader in
     let q' = progress c.read.new.self in
     let b = view c.loop-booked.booked in
     let x = item_of c.in-Some.entry in
-    let f = c.in-err-within.field-0.0 in
-    let h = subst (λ o. ◌≡◌ {A = Pace} (seen (Ok o), q') (advanced q)) c.in-Some.is c.in-ok-entry.ensures in
+    let f = c.in_err-within.field-0.0 in
+    let h = subst (λ o. ◌≡◌ {A = Pace} (seen (Ok o), q') (advanced q)) c.in-Some.is c.in_ok-entry.ensures in
     let w = steps q q' x h in
     let place : c.part.result.place ≡ q.next + 1 =
     ap (λ (y : Place). y.place) c.part.ensures ∙ ap (λ (y : Place). y.place) (step_part q.sheet q.next q.stage q'.stage x w.1) in
-    let d = booked_err c.part.result.place c.carry-out.result b (view c.carry-out.new.self) (carried_out c.args.n c.said.result b) f c.in-err-within.ensures c.carry-out.ensures in
+    let d = booked_err c.part.result.place c.carry_out.result b (view c.carry_out.new.self) (carried_out c.args.n c.said.result b) f c.in_err-within.ensures c.carry_out.ensures in
     rw (p.1, p.2)
     (⊎_elim (λ e. inl (ap Err e))
     (λ g. inr (ap Err (g.2 ∙ ap (λ i. met i g.0) place) ∙ sym (c.loop-booked.invariant.0 ∙ denied c.args.n q q' b x g.0 h (subst (λ y. carried_out c.args.n y b ≡ Err g.0) c.said.ensures g.1)))) d)
 
 -- what the reader did, where the entry was carried out
-module _ (c : goal.In-ok-within) where
+module _ (c : goal.In_ok-within) where
   paced : ◌≡◌ {A = Pace} (Ok (Some (item_of c.in-Some.entry)), progress c.read.new.self) (advanced (progress c.loop-booked.reader))
-  paced = subst (λ o. ◌≡◌ {A = Pace} (seen (Ok o), progress c.read.new.self) (advanced (progress c.loop-booked.reader))) c.in-Some.is c.in-ok-entry.ensures
+  paced = subst (λ o. ◌≡◌ {A = Pace} (seen (Ok o), progress c.read.new.self) (advanced (progress c.loop-booked.reader))) c.in-Some.is c.in_ok-entry.ensures
 
 pub loop-booked-smaller : goal.loop-booked-smaller
 loop-booked-smaller c =
@@ -47,9 +47,9 @@ loop-booked-preserved c =
     let q = progress c.loop-booked.reader in
     let q' = progress c.read.new.self in
     let b = view c.loop-booked.booked in
-    let b' = view c.carry-out.new.self in
+    let b' = view c.carry_out.new.self in
     let x = item_of c.in-Some.entry in
-    let d = subst (λ y. carried_out c.args.n y b ≡ Ok b') c.said.ensures (booked_ok c.part.result.place c.carry-out.result b b' (carried_out c.args.n c.said.result b) _ c.in-ok-within.ensures c.carry-out.ensures) in (
+    let d = subst (λ y. carried_out c.args.n y b ≡ Ok b') c.said.ensures (booked_ok c.part.result.place c.carry_out.result b b' (carried_out c.args.n c.said.result b) _ c.in_ok-within.ensures c.carry_out.ensures) in (
       c.loop-booked.invariant.0 ∙ goes c.args.n q q' b x b' (paced c) d,
       still_counted c.args.n x.says b b' d c.loop-booked.invariant.1,
     )
@@ -58,6 +58,6 @@ pub returns : goal.returns
 returns c =
     let q = progress c.loop-booked.reader in
     let q' = progress c.read.new.self in
-    let n : c.in-ok-entry.field-0 ≡ None = c.in-default.is in
-    let h = subst (λ o. ◌≡◌ {A = Pace} (seen (Ok o), q') (advanced q)) n c.in-ok-entry.ensures in
+    let n : c.in_ok-entry.field-0 ≡ None = c.in_default.is in
+    let h = subst (λ o. ◌≡◌ {A = Pace} (seen (Ok o), q') (advanced q)) n c.in_ok-entry.ensures in
     inr (sym (c.loop-booked.invariant.0 ∙ ends c.args.n q q' (view c.loop-booked.booked) h))

@@ -7,8 +7,8 @@ use Rattle.carry.proofs.carrying.carry.Goals as goal
 pub returns : goal.returns
 returns c =
     let s = c.args.sheet.now in
-    let r = came c.carry-out.result in
+    let r = came c.carry_out.result in
     record {
-      told = c.carry-out.ensures;
-      judged = ⊎_elim (λ e. subst (JudgedBySheet s) (sym e) tt) (λ e. judged_by_sheet s r (sym e)) c.carry-out.ensures;
+      told = c.carry_out.ensures;
+      judged = ⊎_elim (λ e. subst (JudgedBySheet s) (sym e) tt) (λ e. judged_by_sheet s r (sym e)) c.carry_out.ensures;
     }

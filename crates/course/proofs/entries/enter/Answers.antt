@@ -6,16 +6,16 @@ use Rattle.course.specs.Course.{Carried, booking}
 use Rattle.course.proofs.Drums.{entered, unread}
 use Rattle.course.proofs.entries.enter.Goals as goal
 
-pub returns-in-err-read : goal.returns-in-err-read
-returns-in-err-read g c ls h =
+pub returns-in_err-read : goal.returns-in_err-read
+returns-in_err-read g c ls h =
     let p = err_from_is_err_and c.from-residual.result c.from-residual.ensures.1 in
     let b = c.args.bench.now in
     let m = g.M.Method.meaning b.method in
     let st = g.M.Method.stands in
     let x = c.args.current in
     let size = length c.args.pages.now in
-    let f = c.in-err-read.field-0.0 in
-    let k = c.in-err-read.ensures.ledger ls h in
+    let f = c.in_err-read.field-0.0 in
+    let k = c.in_err-read.ensures.ledger ls h in
     let d = unread (reading m b.n size x c.in-Some.reading ls) x ls f k.0 in
     rw (p.1, p.2)
     (subst (λ o. Carried m st b.n ls c.read.new.pages (Err f) (booking m b.n size o x ls)) (sym c.in-Some.is) (d.0, subst (λ t. Holds m st b.n t c.read.new.pages) d.1 k.1))
@@ -27,7 +27,7 @@ returns g c ls h =
     let st = g.M.Method.stands in
     let x = c.args.current in
     let size = length c.args.pages.now in
-    let k = c.in-ok-read.ensures.ledger ls h in
+    let k = c.in_ok-read.ensures.ledger ls h in
     let q = reading m b.n size x c.in-Some.reading ls in
     let made = entered q x ls tt k.0 in
     subst (λ o. Carried m st b.n ls c.read.new.pages (Ok x) (booking m b.n size o x ls)) (sym c.in-Some.is) (after q ls, made, k.1)

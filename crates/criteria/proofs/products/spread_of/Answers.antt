@@ -29,8 +29,8 @@ module _ (c : goal.After-times-2) where
   back : to_z w64 (of_z w64 (to_z w64 (of_z w64 c.times.result) -ℤ to_z w64 (of_z w64 c.times-2.result))) ≡ c.times.result -ℤ c.times-2.result
   back = back_sub c.times.result c.times-2.result (omega (arith, c.times.ensures.size, c.times-2.ensures.size))
 
-pub overflow-sub-result : goal.overflow-sub-result
-overflow-sub-result c = omega (arith, ints, c.times.ensures.size, c.times-2.ensures.size)
+pub overflow_sub-result : goal.overflow_sub-result
+overflow_sub-result c = omega (arith, ints, c.times.ensures.size, c.times-2.ensures.size)
 
 pub returns : goal.returns
 returns c = record { value = back c ∙ whole c; size = subst (λ (z : ℤ). nat_abs z ≤ 10000000000) (sym (back c)) (small c) }

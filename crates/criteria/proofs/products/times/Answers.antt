@@ -7,8 +7,8 @@ use Rattle.criteria.proofs.products.times.Goals as goal
 same : (a b : ℤ) → SFits w64 a → SFits w64 b → to_z w64 (of_z w64 a) *ℤ to_z w64 (of_z w64 b) ≡ a *ℤ b
 same a b f g = simp to_z-of_z
 
-pub overflow-mul-result : goal.overflow-mul-result
-overflow-mul-result g c =
+pub overflow_mul-result : goal.overflow_mul-result
+overflow_mul-result g c =
     let small = product_within c.args.a c.args.b g.row.M g.row.K c.requires.first c.requires.second in
     let fits : SFits w64 (c.args.a *ℤ c.args.b) = omega (arith, ints, c.requires.room) in
     subst (SFits w64) (sym (same c.args.a c.args.b c.ranges.a c.ranges.b)) fits

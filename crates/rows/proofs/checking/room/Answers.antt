@@ -1,17 +1,17 @@
-use Rattle.std.proofs.Common.{◌≡◌, ◌+◌, ◌-◌, ◌≤◌, ◌⊎◌, drop, sym, ap, ◌∙◌, inl, inr, ⊎_elim, arith}
+use Rattle.std.proofs.Common.{◌≡◌, ◌+◌, ◌-◌, drop, sym, ap, ◌∙◌, inl, inr, ⊎_elim, arith}
 use Rattle.std.proofs.lemmas.List.{drop_all}
 use Rattle.method.proofs.Tallies.{a_tally, no_tally}
 use Rattle.rows.specs.Checks.{room}
 use Rattle.rows.proofs.Steps.{room_ends, room_goes, fits_none, fits_over, fits_blank, fits_yes}
 use Rattle.rows.proofs.checking.room.Goals as goal
 
-pub returns-in-default : goal.returns-in-default
-returns-in-default g c =
+pub returns-in_default : goal.returns-in_default
+returns-in_default g c =
     let m = g.M.Method.meaning c.args.method.now in
     let st = g.M.Method.stands in
     let p = c.p-item.result in
     let k = c.loop-p.left in
-    sym (c.loop-p.invariant ∙ room_ends c.args.pages.now c.loop-p.p-index p c.loop-p-test.true c.p-item.is m st k (fits_none m st p k (no_tally g.M.Method.of st g.met.M.Method.decided p.numbers c.in-default.ensures)))
+    sym (c.loop-p.invariant ∙ room_ends c.args.pages.now c.loop-p.p-index p c.loop-p-test.true c.p-item.is m st k (fits_none m st p k (no_tally g.M.Method.of st g.met.M.Method.decided p.numbers c.in_default.ensures)))
 
 pub returns-then-count-left : goal.returns-then-count-left
 returns-then-count-left g c =

@@ -1,4 +1,4 @@
-use Rattle.std.proofs.Common.{◌≡◌, ◌+◌, ◌-◌, ◌++◌, length, drop, replicate}
+use Rattle.std.proofs.Common.{◌≡◌, ◌++◌, drop, replicate}
 use Rattle.rows.proofs.edits.blank_all.Given as goal
 
 abbrev pub invariant-loop-p : goal.invariant-loop-p

@@ -1,4 +1,4 @@
-use Rattle.std.proofs.Common.{◌≡◌, sym, refl, ap, ◌∙◌, arith}
+use Rattle.std.proofs.Common.{refl, ◌∙◌, arith}
 use Rattle.rows.proofs.Steps.{moving_start, moving_step, moving_end}
 use Rattle.rows.proofs.edits.move_up.Goals as goal
 

@@ -1,4 +1,4 @@
-use Rattle.std.proofs.Common.{◌≡◌, Ok, Err, sym, ap, ◌∙◌}
+use Rattle.std.proofs.Common.{Ok, Err, sym, ap, ◌∙◌}
 use Rattle.std.proofs.lemmas.List.{drop_all}
 use Rattle.method.specs.Answers.{joined}
 use Rattle.method.proofs.Tallies.{a_tally, no_tally}
@@ -6,12 +6,12 @@ use Rattle.rows.specs.Joining.{sum_of}
 use Rattle.rows.proofs.Steps.{sum_none, sum_goes}
 use Rattle.rows.proofs.joining.total.Goals as goal
 
-pub returns-in-default : goal.returns-in-default
-returns-in-default g c =
+pub returns-in_default : goal.returns-in_default
+returns-in_default g c =
     let m = g.M.Method.meaning c.args.method.now in
     let st = g.M.Method.stands in
     let p = c.p-item.result in
-    sym (c.loop-p.invariant ∙ sum_none c.args.pages.now c.loop-p.p-index p c.loop-p-test.true c.p-item.is m st (g.M.Method.of c.loop-p.sum) (no_tally g.M.Method.of st g.met.M.Method.decided p.numbers c.in-default.ensures))
+    sym (c.loop-p.invariant ∙ sum_none c.args.pages.now c.loop-p.p-index p c.loop-p-test.true c.p-item.is m st (g.M.Method.of c.loop-p.sum) (no_tally g.M.Method.of st g.met.M.Method.decided p.numbers c.in_default.ensures))
 
 pub returns-in-Err : goal.returns-in-Err
 returns-in-Err g c =

@@ -8,5 +8,5 @@ pub returns : goal.returns
 returns c =
     let most = c.args.self.most in
     let x = c.args.t.counts in
-    let e : c.at-most.result ≡ judged most x = search rules in
+    let e : c.at_most.result ≡ judged most x = search rules in
     record { value = e; exact = subst (λ (v : Verdict). Tells v most x) (sym e) (marks_tells most x) }

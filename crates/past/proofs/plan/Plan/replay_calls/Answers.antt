@@ -1,8 +1,8 @@
-use Rattle.std.proofs.Common.{◌≡◌, ℕ, ◌+◌, List, [], length, drop, Ok, Err, sym, ap, ◌∙◌, subst, arith}
+use Rattle.std.proofs.Common.{◌≡◌, ◌+◌, List, [], length, drop, Ok, Err, sym, ap, ◌∙◌, subst, arith}
 use Rattle.std.proofs.lemmas.List.{drop_all}
 use Rattle.bench.specs.Calls.{after}
-use Rattle.bench.specs.Ledger.{Holds, Line, standing}
-use Rattle.past.specs.Pasts.{call, judged, run}
+use Rattle.bench.specs.Ledger.{Holds, Line}
+use Rattle.past.specs.Pasts.{call, run}
 use Rattle.past.proofs.Promised.{ended, judged_full, judged_short}
 use Rattle.past.proofs.Runs.{run_ends, run_goes}
 use Rattle.past.proofs.plan.Plan.replay_calls.Goals as goal
