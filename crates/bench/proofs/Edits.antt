@@ -1,6 +1,6 @@
 -- What adding to a line, removing a line and a new line do to the lines and to the row that shows them.
 use Rattle.std.proofs.Common.{◌≡◌, ℕ, suc, ◌+◌, true, false, cond, ◌||◌, eqb, List, [], ◌∷◌, ◌++◌, map, length, get_or, take, drop, set, replicate, sym, refl, ap, ◌∙◌, ⊎_elim, arith}
-use Rattle.std.specs.List.{AllByRecursion as All}
+use Rattle.std.specs.List.{AllByRecursion}
 use Rattle.std.proofs.lemmas.List.{length-append, length-map, append_assoc, set_at, map_push, replicate_more}
 use Rattle.std.proofs.ByRecursion.{All-append}
 use Rattle.std.proofs.lemmas.Bool.{cond-true, cond-false, eq-eqb, ne_eqb, eqb-true, or_from, or_parts, cases_Bool, both_ways}
@@ -40,10 +40,10 @@ module _ {R : Type 0} where
       elim (eqb l.name x) as (λ b. Apart (cond b (line l.name (l.readings ++ rs) ∷ ls) (l ∷ add x rs ls)))
       [ true ↦ (a.0, a.1) | false ↦ (open_add l.name x rs ls ∙ a.0, apart_add x rs ls a.1) ]
 
-  pub names_add : (P : ℕ → Type 0) (x : ℕ) (rs : List R) (ls : List (Line R)) → All (λ l. P l.name) ls → All (λ l. P l.name) (add x rs ls)
+  pub names_add : (P : ℕ → Type 0) (x : ℕ) (rs : List R) (ls : List (Line R)) → AllByRecursion (λ l. P l.name) ls → AllByRecursion (λ l. P l.name) (add x rs ls)
   names_add P x rs [] h = tt
   names_add P x rs (l ∷ ls) h =
-      elim (eqb l.name x) as (λ b. All (λ l. P l.name) (cond b (line l.name (l.readings ++ rs) ∷ ls) (l ∷ add x rs ls)))
+      elim (eqb l.name x) as (λ b. AllByRecursion (λ l. P l.name) (cond b (line l.name (l.readings ++ rs) ∷ ls) (l ∷ add x rs ls)))
       [ true ↦ (h.0, h.1) | false ↦ (h.0, names_add P x rs ls h.1) ]
 
   pub standing_add : (x : ℕ) (rs : List R) (ls : List (Line R)) → is_open x ls ≡ true → length (standing (add x rs ls)) ≡ length (standing ls) + length rs
@@ -78,9 +78,9 @@ module _ {R : Type 0} where
       elim (eqb l.name x) as (λ b. Apart (cond b ls (l ∷ remove x ls)))
       [ true ↦ a.1 | false ↦ (open_remove l.name x ls a.0, apart_remove x ls a.1) ]
 
-  pub all_remove : (P : Line R → Type 0) (x : ℕ) (ls : List (Line R)) → All P ls → All P (remove x ls)
+  pub all_remove : (P : Line R → Type 0) (x : ℕ) (ls : List (Line R)) → AllByRecursion P ls → AllByRecursion P (remove x ls)
   all_remove P x [] h = tt
-  all_remove P x (l ∷ ls) h = elim (eqb l.name x) as (λ b. All P (cond b ls (l ∷ remove x ls))) [ true ↦ h.1 | false ↦ (h.0, all_remove P x ls h.1) ]
+  all_remove P x (l ∷ ls) h = elim (eqb l.name x) as (λ b. AllByRecursion P (cond b ls (l ∷ remove x ls))) [ true ↦ h.1 | false ↦ (h.0, all_remove P x ls h.1) ]
 
   pub standing_remove : (x : ℕ) (ls : List (Line R)) → length (standing (remove x ls)) + length (readings_of x ls) ≡ length (standing ls)
   standing_remove x [] = refl
@@ -104,17 +104,17 @@ module _ {R : Type 0} where
   length_add x rs (l ∷ ls) = let ih = length_add x rs ls in elim (eqb l.name x) as (λ b. length (cond b (line l.name (l.readings ++ rs) ∷ ls) (l ∷ add x rs ls)) ≡ suc (length ls)) [ true ↦ refl | false ↦ ap suc ih ]
 
   module _ {X : Type 0} (m : Meaning R X) where
-    pub taken_add : (x : ℕ) (rs : List R) (ls : List (Line R)) → Taken m rs → All (λ l. Taken m l.readings) ls → All (λ l. Taken m l.readings) (add x rs ls)
+    pub taken_add : (x : ℕ) (rs : List R) (ls : List (Line R)) → Taken m rs → AllByRecursion (λ l. Taken m l.readings) ls → AllByRecursion (λ l. Taken m l.readings) (add x rs ls)
     taken_add x rs [] t h = tt
     taken_add x rs (l ∷ ls) t h =
-        elim (eqb l.name x) as (λ b. All (λ l. Taken m l.readings) (cond b (line l.name (l.readings ++ rs) ∷ ls) (l ∷ add x rs ls)))
+        elim (eqb l.name x) as (λ b. AllByRecursion (λ l. Taken m l.readings) (cond b (line l.name (l.readings ++ rs) ∷ ls) (l ∷ add x rs ls)))
         [ true ↦ (All-append (λ r. m.takes r ≡ true) l.readings rs h.0 t, h.1) | false ↦ (h.0, taken_add x rs ls t h.1) ]
 
-    pub taken_of : (x : ℕ) (ls : List (Line R)) → All (λ l. Taken m l.readings) ls → Taken m (readings_of x ls)
+    pub taken_of : (x : ℕ) (ls : List (Line R)) → AllByRecursion (λ l. Taken m l.readings) ls → Taken m (readings_of x ls)
     taken_of x [] h = tt
     taken_of x (l ∷ ls) h = elim (eqb l.name x) as (λ b. Taken m (cond b l.readings (readings_of x ls))) [ true ↦ h.0 | false ↦ taken_of x ls h.1 ]
 
-    pub taken_standing : (ls : List (Line R)) → All (λ l. Taken m l.readings) ls → Taken m (standing ls)
+    pub taken_standing : (ls : List (Line R)) → AllByRecursion (λ l. Taken m l.readings) ls → Taken m (standing ls)
     taken_standing [] h = tt
     taken_standing (l ∷ ls) h = All-append (λ r. m.takes r ≡ true) l.readings (standing ls) h.0 (taken_standing ls h.1)
 
@@ -134,7 +134,7 @@ module _ {R : Type 0} where
         [ true ↦ refl | false ↦ ap (λ t. cond (eqb l.name y) 0 (suc t)) (place_add y x rs ls k) ]
 
     -- the page of an open name with more readings
-    pub shown_add : (laws : Laws m) (x : ℕ) (rs : List R) (ls : List (Line R)) (k : ℕ) → is_open x ls ≡ true → Taken m rs → All (λ l. Taken m l.readings) ls → set (row m ls k) (rows.place x (row m ls k)) (page x (m.join (m.total (readings_of x ls)) (m.total rs))) ≡ row m (add x rs ls) k
+    pub shown_add : (laws : Laws m) (x : ℕ) (rs : List R) (ls : List (Line R)) (k : ℕ) → is_open x ls ≡ true → Taken m rs → AllByRecursion (λ l. Taken m l.readings) ls → set (row m ls k) (rows.place x (row m ls k)) (page x (m.join (m.total (readings_of x ls)) (m.total rs))) ≡ row m (add x rs ls) k
     shown_add laws x rs [] k h t ts = absurd (both_ways false refl h)
     shown_add laws x rs (l ∷ ls) k h t ts =
         ⊎_elim

@@ -1,6 +1,6 @@
 -- Each call on pages that show lines answers as the ledger does, and leaves pages that show the ledger's next lines.
 use Rattle.std.proofs.Common.{◌≡◌, ℕ, zero, suc, ◌+◌, ◌-◌, ◌<◌, ◌≤◌, Bool, true, false, cond, ◌&&◌, eqb, ltb, leb, List, [], ◌∷◌, ◌++◌, length, set, replicate, Ok, Err, Result, sym, refl, ap, ◌∙◌, subst, ⊎_elim, arith}
-use Rattle.std.specs.List.{AllByRecursion as All}
+use Rattle.std.specs.List.{AllByRecursion}
 use Rattle.std.proofs.lemmas.List.{length-append, length-set, append-nil, append_assoc}
 use Rattle.std.proofs.ByRecursion.{All-push, All-append}
 use Rattle.std.proofs.lemmas.Bool.{cond-true, cond-false, eq-eqb, ne_eqb, eqb-false, le-leb, leb-true, ltb-true, ltb-false, and_parts, cases_Bool}
@@ -232,7 +232,7 @@ module _ {R X : Type 0} (m : Meaning R X) (st : X → Bool) (laws : Laws m) (n :
         (λ _. refl))
 
     -- the pages' tallies joined are the total of the readings that stand
-    sum_row : (acc : List R) (qs : List (Line R)) (k : ℕ) → Taken m acc → All (λ l. Taken m l.readings) qs → length acc + length (standing qs) ≤ 50 → Sound st (row m qs k) → sum_of m st (m.total acc) (row m qs k) ≡ Ok (m.total (acc ++ standing qs))
+    sum_row : (acc : List R) (qs : List (Line R)) (k : ℕ) → Taken m acc → AllByRecursion (λ l. Taken m l.readings) qs → length acc + length (standing qs) ≤ 50 → Sound st (row m qs k) → sum_of m st (m.total acc) (row m qs k) ≡ Ok (m.total (acc ++ standing qs))
     sum_row acc [] zero ta tq fit w = ap (λ t. Ok (m.total t)) (sym (append-nil acc))
     sum_row acc [] (suc k) ta tq fit w =
         let e : m.join (m.total acc) (m.total []) ≡ m.total acc = laws.comm (m.total acc) (m.total []) ∙ laws.neutral (m.total acc) in

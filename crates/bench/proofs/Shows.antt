@@ -1,6 +1,6 @@
 -- Pages that show a ledger's lines: what the check finds on them, and where a name stands.
 use Rattle.std.proofs.Common.{◌≡◌, ℕ, zero, suc, ◌+◌, ◌-◌, ◌<◌, ◌≤◌, Bool, true, false, cond, ◌&&◌, ◌||◌, eqb, ltb, leb, List, [], ◌∷◌, map, length, replicate, Some, None, Ok, Err, sym, refl, ap, ◌∙◌, subst, inl, inr, ⊎_elim, arith}
-use Rattle.std.specs.List.{AllByRecursion as All}
+use Rattle.std.specs.List.{AllByRecursion}
 use Rattle.std.specs.Option.{ok_or}
 use Rattle.std.proofs.lemmas.List.{length-append, length-map, length-replicate}
 use Rattle.std.proofs.lemmas.Bool.{cond-true, cond-false, eq-eqb, ne_eqb, le-leb, le-ltb, lt-ltb, leb-true, and_from, and_parts, or_parts, or_right, cases_Bool, both_ways}
@@ -25,7 +25,7 @@ module _ {R X : Type 0} (m : Meaning R X) where
   order_blanks b zero = refl
   order_blanks b (suc k) = order_blanks true k
 
-  pub order_row : (ls : List (Line R)) (k : ℕ) → All (λ l. named l.name ≡ true) ls → in_order false (row m ls k) ≡ true
+  pub order_row : (ls : List (Line R)) (k : ℕ) → AllByRecursion (λ l. named l.name ≡ true) ls → in_order false (row m ls k) ≡ true
   order_row [] k h = order_blanks false k
   order_row (l ∷ ls) k h = cond-false (eqb l.name 0) (in_order true (row m ls k)) (in_order false (row m ls k)) (ne_eqb l.name 0 (named_not_0 l.name h.0)) ∙ order_row ls k h.1
 
@@ -42,7 +42,7 @@ module _ {R X : Type 0} (m : Meaning R X) where
   once_blanks zero = refl
   once_blanks (suc k) = once_blanks k
 
-  pub once_row : (ls : List (Line R)) (k : ℕ) → All (λ l. named l.name ≡ true) ls → Apart ls → once (row m ls k) ≡ true
+  pub once_row : (ls : List (Line R)) (k : ℕ) → AllByRecursion (λ l. named l.name ≡ true) ls → Apart ls → once (row m ls k) ≡ true
   once_row [] k h a = once_blanks k
   once_row (l ∷ ls) k h a =
       and_from (eqb l.name 0 || eqb (rows.place l.name (row m ls k)) (length (row m ls k))) (once (row m ls k))
@@ -66,7 +66,7 @@ module _ {R X : Type 0} (m : Meaning R X) where
       (cases_Bool (is_open x ls))
 
   -- the first blank page stands behind the lines
-  pub place_blank : (ls : List (Line R)) (k : ℕ) → All (λ l. named l.name ≡ true) ls → rows.place 0 (row m ls k) ≡ length ls
+  pub place_blank : (ls : List (Line R)) (k : ℕ) → AllByRecursion (λ l. named l.name ≡ true) ls → rows.place 0 (row m ls k) ≡ length ls
   place_blank [] zero h = refl
   place_blank [] (suc k) h = refl
   place_blank (l ∷ ls) k h = cond-false (eqb l.name 0) 0 (suc (rows.place 0 (row m ls k))) (ne_eqb l.name 0 (named_not_0 l.name h.0)) ∙ ap suc (place_blank ls k h.1)
@@ -81,7 +81,7 @@ module _ {R X : Type 0} (m : Meaning R X) where
         cond-true (fits m st (blank_page m) j) (room m st (j - m.count (m.total [])) (replicate k (blank_page m))) None f
         ∙ ap (λ t. room m st t (replicate k (blank_page m))) e ∙ room_blanks j k o.1
 
-    pub room_row : (ls : List (Line R)) (k n : ℕ) → All (λ l. named l.name ≡ true) ls → All (λ l. Taken m l.readings) ls → length (standing ls) ≤ n → n ≤ 50 → Sound st (row m ls k) → room m st n (row m ls k) ≡ Some (n - length (standing ls))
+    pub room_row : (ls : List (Line R)) (k n : ℕ) → AllByRecursion (λ l. named l.name ≡ true) ls → AllByRecursion (λ l. Taken m l.readings) ls → length (standing ls) ≤ n → n ≤ 50 → Sound st (row m ls k) → room m st n (row m ls k) ≡ Some (n - length (standing ls))
     room_row [] k n h t few top o = room_blanks n k o ∙ ap Some (omega arith)
     room_row (l ∷ ls) k n h t few top o =
         let x = m.total l.readings in

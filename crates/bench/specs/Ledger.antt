@@ -1,6 +1,6 @@
 -- The ledger: lines of readings, what the calls do to them, and how pages show them.
 use Rattle.std.specs.Prelude.{◌≡◌, ℕ, ◌+◌, ◌≤◌, Bool, true, false, cond, ◌&&◌, ◌||◌, List, [], ◌∷◌, ◌++◌, map, length, replicate, Ok, Err, Result, ◌==◌, nat_le, nat_lt}
-use Rattle.std.specs.List.{AllByRecursion as All}
+use Rattle.std.specs.List.{AllByRecursion}
 use Rattle.fault.specs.declared.Fault.{Fault}
 use Rattle.fault.specs.declared.Fault.TheVariants.{NameNotOpen, NameOpen, NameRange, PlanFull, PouredOntoItself, PouredPastPlan, ReadingNotTaken, ReadingsMissing, RowFull}
 use Rattle.method.specs.Meaning.{Meaning, Taken}
@@ -80,7 +80,7 @@ row m ls k = map (page_of m) ls ++ replicate k (blank_page m)
 
 -- some tally gives each page's numbers
 abbrev pub Sound : {X : Type 0} → (X → Bool) → List (Page X) → Type 0
-Sound st ps = All (λ p. st p.numbers ≡ true) ps
+Sound st ps = AllByRecursion (λ p. st p.numbers ≡ true) ps
 
 -- 1 to 64 pages that picture lines which a bench's past can leave: names in range and apart, readings that the method
 -- takes, and at most n of them
@@ -89,9 +89,9 @@ pub record Shows {R X : Type 0} (m : Meaning R X) (n : ℕ) (ls : List (Line R))
   pub shown : ps ≡ row m ls blanks
   pub some : 1 ≤ length ps
   pub most : length ps ≤ 64
-  pub names : All (λ l. named l.name ≡ true) ls
+  pub names : AllByRecursion (λ l. named l.name ≡ true) ls
   pub apart : Apart ls
-  pub taken : All (λ l. Taken m l.readings) ls
+  pub taken : AllByRecursion (λ l. Taken m l.readings) ls
   pub few : length (standing ls) ≤ n
 
 -- the pages show the lines, and were written from tallies

@@ -2,7 +2,7 @@
 use Rattle.std.proofs.Common.{◌≡◌, ℕ, zero, suc, ◌+◌, ◌-◌, ◌<◌, ◌≤◌, Bool, true, false, cond, ◌&&◌, ltb, leb, List, [], ◌∷◌, ◌++◌, length, ℤ, pos, negsuc, nat_abs, Some, None, Ok, Err, Option, Result, sym, refl, ap, ◌∙◌, subst, arith}
 use Rattle.std.proofs.ByRecursion.{All-append}
 use Rattle.std.proofs.lemmas.Bool.{ltb-false, ltb-true}
-use Rattle.std.specs.List.{AllByRecursion as All}
+use Rattle.std.specs.List.{AllByRecursion}
 use Rattle.fault.proofs.Passed.{located_ok, then_ok}
 use Rattle.fault.specs.Located.{located, then}
 use Rattle.fault.specs.declared.Fault.{Fault}
@@ -34,7 +34,7 @@ use Rattle.carry.proofs.Bookings.{drum_kept, entered_ok}
 abbrev of : Said → List ℤ
 of x = readings (x ∷ [])
 
-booked : (n : ℕ) (x : Said) (b c : Books) → carried_out n x b ≡ Ok c → (c.total ≡ together b.total (summed (of x))) × All (λ r. reading r ≡ true) (of x) × (b.total.n ≤ n → c.total.n ≤ n)
+booked : (n : ℕ) (x : Said) (b c : Books) → carried_out n x b ≡ Ok c → (c.total ≡ together b.total (summed (of x))) × AllByRecursion (λ r. reading r ≡ true) (of x) × (b.total.n ≤ n → c.total.n ≤ n)
 booked n (Planned p) b c h = let z : ◌≡◌ {A = ℕ} 0 1 = cc in absurd (omega arith)
 booked n (Drummed a) b c h =
     let d = drum_kept a b c h in
@@ -57,7 +57,7 @@ pub record Made (n : ℕ) (s : List ℕ) (j i : ℕ) (t : Stage) (b c : Books) :
   pub xs : List Item
   pub read : items_from s j i t ≡ Ok xs
   pub total : c.total ≡ together b.total (summed (readings (says xs)))
-  pub each : All (λ r. reading r ≡ true) (readings (says xs))
+  pub each : AllByRecursion (λ r. reading r ≡ true) (readings (says xs))
   pub few : b.total.n ≤ n → c.total.n ≤ n
 
 made_more : (n : ℕ) (s : List ℕ) (j i : ℕ) (t u : Stage) (x : Item) (b c e : Books) → step_at s i t ≡ Ok (x, u) → carried_out n x.says b ≡ Ok c → Made n s j (i + 1) u c e → Made n s (suc j) i t b e
@@ -71,7 +71,7 @@ made_more n s j i t u x b c e h d m =
       read = rw (h, m.read);
       total = m.total ∙ ap (λ y. together y (summed rs)) k.0 ∙ assoc b.total (summed (of x.says)) (summed rs)
           ∙ ap (together b.total) (sym (appended (of x.says) rs) ∙ ap summed (sym cons));
-      each = subst (All (λ r. reading r ≡ true)) (sym cons) (All-append (λ r. reading r ≡ true) (of x.says) rs k.1 m.each);
+      each = subst (AllByRecursion (λ r. reading r ≡ true)) (sym cons) (All-append (λ r. reading r ≡ true) (of x.says) rs k.1 m.each);
       few = λ l. m.few (k.2 l);
     }
 

@@ -1,6 +1,6 @@
 -- What the entries of a sheet under a plan of unknown deviation book, one by one.
 use Rattle.std.specs.Prelude.{◌≡◌, ℕ, zero, suc, ◌+◌, ◌≤◌, Bool, cond, ◌&&◌, ◌⊎◌, List, [], ◌∷◌, ◌++◌, length, ℤ, pos, Ok, Err, vec_items, Result, ◌==◌, int_le, nat_lt, slice_index_or, slice_set, unsigned_abs}
-use Rattle.std.specs.List.{AllByRecursion as All}
+use Rattle.std.specs.List.{AllByRecursion}
 use Rattle.fault.specs.declared.Fault.{Fault}
 use Rattle.fault.specs.declared.Fault.TheVariants.{EntryOrder, NameRange, NoMemory, PlanFull, ReadingNotTaken, RowFull}
 use Rattle.entry.specs.declared.kinds.Said.{Said}
@@ -31,7 +31,7 @@ counted i ds = slice_set ds i (one_more (slice_index_or ds i (drum 0 0)))
 
 -- each drum has fewer readings than that
 abbrev pub Counted : ℕ → List Drum → Type 0
-Counted c ds = All (λ d. d.count ≤ c) ds
+Counted c ds = AllByRecursion (λ d. d.count ≤ c) ds
 
 -- what is booked: the drums in the order of first naming, the place of the one named last, and the numbers of all readings
 pub record Books : Type 0 where

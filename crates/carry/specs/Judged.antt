@@ -1,6 +1,6 @@
 -- What the verdict of a judged sheet says of its readings.
 use Rattle.std.specs.Prelude.{◌≡◌, ℕ, true, List, [], ◌∷◌, length, ℤ, pos, Ok, Err, Result}
-use Rattle.std.specs.List.{AllByRecursion as All}
+use Rattle.std.specs.List.{AllByRecursion}
 use Rattle.fault.specs.declared.Fault.{Fault}
 use Rattle.variables.specs.Sums.{reading, summed}
 use Rattle.variables.specs.Unknown.{Tells, constants}
@@ -32,7 +32,7 @@ pub record Right (s : List ℕ) (t : Lot) : Type 0 where
   pub plan : says entries ≡ Planned (Unknown (pos t.n) limit k) ∷ rest
   pub in_range : constants limit k ≡ true
   pub planned : length (readings rest) ≡ t.n
-  pub each : All (λ r. reading r ≡ true) (readings rest)
+  pub each : AllByRecursion (λ r. reading r ≡ true) (readings rest)
   pub verdict : Tells t.verdict limit k (summed (readings rest))
 
 abbrev pub JudgedBySheet : List ℕ → Result Came Fault → Type 0

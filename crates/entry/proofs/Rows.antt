@@ -7,7 +7,7 @@ use Rattle.std.proofs.lemmas.Str.Parse.{digit_from_value}
 use Rattle.std.proofs.lemmas.Slice.{between_to_end}
 use Rattle.std.specs.Str.Parse.{AllDigits}
 use Rattle.std.specs.Fmt.{signed_decimal}
-use Rattle.std.specs.List.{AllByRecursion as All}
+use Rattle.std.specs.List.{AllByRecursion}
 use Rattle.fault.proofs.Passed.{then_ok}
 use Rattle.fault.specs.Located.{then}
 use Rattle.fault.specs.declared.Fault.{Fault}
@@ -71,7 +71,7 @@ commas_more x (y ∷ ys) h = refl
 
 -- a text is the k numbers xs
 abbrev pub Row : ℕ → List ℕ → List ℤ → Type 0
-Row k bs xs = (length xs ≡ k) × (bs ≡ commas xs) × All Short xs
+Row k bs xs = (length xs ≡ k) × (bs ≡ commas xs) × AllByRecursion Short xs
 
 pub row_reads : (k : ℕ) (bs : List ℕ) (xs : List ℤ) → numbers_of (suc k) bs ≡ Ok xs → Row (suc k) bs xs
 unfolding numbers_of
@@ -90,7 +90,7 @@ row_reads (suc k) bs xs h =
     let w : bs ≡ signed_decimal a.0 ++ 44 ∷ commas b.0 = cut bs some ∙ (λ i. (sym (before_is bs) ∙ p.0) i ++ 44 ∷ (sym (behind_is bs) ∙ q.1) i) in
     subst (Row (suc (suc k)) bs) e (ap suc q.0, w ∙ sym (commas_more a.0 b.0 (omega (arith, q.0))), (p.1, q.2))
 
-pub row_spells : (x : ℤ) (xs : List ℤ) → All Short (x ∷ xs) → numbers_of (suc (length xs)) (commas (x ∷ xs)) ≡ Ok (x ∷ xs)
+pub row_spells : (x : ℤ) (xs : List ℤ) → AllByRecursion Short (x ∷ xs) → numbers_of (suc (length xs)) (commas (x ∷ xs)) ≡ Ok (x ∷ xs)
 unfolding numbers_of
 row_spells x [] s = rw ((printed (signed_decimal x)).prints x refl s.0)
 row_spells x (y ∷ ys) s =

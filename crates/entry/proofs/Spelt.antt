@@ -1,7 +1,7 @@
 -- The text of an entry is exactly its letter and its numbers, as printing gives them.
 use Rattle.std.proofs.Common.{◌≡◌, ℕ, zero, suc, Bool, true, false, cond, eqb, List, [], ◌∷◌, length, get_or, drop, ℤ, Ok, Err, Result, sym, refl, ap, ◌∙◌, subst, arith}
 use Rattle.std.proofs.lemmas.Bool.Decides.{Decides-eqb}
-use Rattle.std.specs.List.{AllByRecursion as All}
+use Rattle.std.specs.List.{AllByRecursion}
 use Rattle.fault.specs.Located.{then}
 use Rattle.fault.specs.declared.Fault.{Fault}
 use Rattle.fault.specs.declared.Fault.TheVariants.{EntryForm}
@@ -26,7 +26,7 @@ all_placed [] = refl
 all_placed (x ∷ xs) = ap (λ l. x ∷ l) (all_placed xs)
 
 abbrev Says : List ℕ → Said → Type 0
-Says bs x = (bs ≡ spelled x) × All Short (numbers_in x)
+Says bs x = (bs ≡ spelled x) × AllByRecursion Short (numbers_in x)
 
 -- an answer x is the entry f x, and the text says so
 abbrev Reads : {X : Type 0} → (X → Said) → List ℕ → Result X Fault → Type 0
@@ -77,7 +77,7 @@ module _ (c : ℕ) (t : List ℕ) where
       let r = row_reads k t a.0 a.1 in
       let p : placed (suc k) (nth a.0) ≡ a.0 = ap (λ n. placed n (nth a.0)) (sym r.0) ∙ all_placed a.0 in
       let w : c ∷ t ≡ l ∷ commas (placed (suc k) (nth a.0)) = (λ i. (Decides-eqb c l).0 e i ∷ (r.1 ∙ ap commas (sym p)) i) in
-      subst (λ y. Says (c ∷ t) (f y)) q (w ∙ sym (text a.0), subst (All Short) (sym (numbers a.0 ∙ p)) r.2))
+      subst (λ y. Says (c ∷ t) (f y)) q (w ∙ sym (text a.0), subst (AllByRecursion Short) (sym (numbers a.0 ∙ p)) r.2))
 
   plan_reads : Reads Planned (c ∷ t) (plan_of c t)
   plan_reads =
@@ -109,7 +109,7 @@ formed_reads : (bs : List ℕ) → Reads (λ y. y) bs (formed bs)
 formed_reads [] = reads_none (λ y. y) []
 formed_reads (c ∷ t) = form_reads c t
 
-formed_spells : (x : Said) → All Short (numbers_in x) → formed (spelled x) ≡ Ok x
+formed_spells : (x : Said) → AllByRecursion Short (numbers_in x) → formed (spelled x) ≡ Ok x
 formed_spells (Planned (Known n l s k)) h = rw (row_spells n (l ∷ s ∷ k ∷ []) h)
 formed_spells (Planned (Unknown n l k)) h = rw (row_spells n (l ∷ k ∷ []) h)
 formed_spells (Planned (Window n l u k)) h = rw (row_spells n (l ∷ u ∷ k ∷ []) h)

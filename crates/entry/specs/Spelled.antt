@@ -1,7 +1,7 @@
 -- The texts of entries, by what printing their numbers gives.
 use Rattle.std.specs.Prelude.{◌≡◌, ℕ, true, false, List, [], ◌∷◌, ◌++◌, ℤ, Ok, Result}
 use Rattle.std.specs.Fmt.{signed_decimal}
-use Rattle.std.specs.List.{AllByRecursion as All}
+use Rattle.std.specs.List.{AllByRecursion}
 use Rattle.fault.specs.declared.Fault.{Fault}
 use Rattle.entry.specs.declared.kinds.Plan.TheVariants.{Known, Unknown, Window, Marks, Gauged, Mean, Paired}
 use Rattle.entry.specs.declared.kinds.Said.{Said}
@@ -40,5 +40,5 @@ spelled (Mark false) = 77 ∷ 45 ∷ []
 
 -- a text reads as the entry x exactly when it is what x is spelled as and no number of x has more than seven digits
 pub record Spelled (bs : List ℕ) (r : Result Said Fault) : Type 0 where
-  pub reads : (x : Said) → r ≡ Ok x → (bs ≡ spelled x) × All Short (numbers_in x)
-  pub spells : (x : Said) → bs ≡ spelled x → All Short (numbers_in x) → r ≡ Ok x
+  pub reads : (x : Said) → r ≡ Ok x → (bs ≡ spelled x) × AllByRecursion Short (numbers_in x)
+  pub spells : (x : Said) → bs ≡ spelled x → AllByRecursion Short (numbers_in x) → r ≡ Ok x

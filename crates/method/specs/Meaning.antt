@@ -1,6 +1,6 @@
 -- What a method of inspection means, and the laws that whoever adds one shows.
 use Rattle.std.specs.Prelude.{◌≡◌, ℕ, ◌+◌, ◌≤◌, Bool, true, false, List, [], ◌++◌, length, Some, None, Option, ◌≢◌}
-use Rattle.std.specs.List.{AllByRecursion as All}
+use Rattle.std.specs.List.{AllByRecursion}
 use Rattle.method.specs.declared.verdict.Verdict.{Verdict}
 
 -- R is the readings, X the totals of lists of readings, as plain numbers
@@ -20,7 +20,7 @@ pub record Meaning (R X : Type 0) : Type 0 where
 
 -- the method takes each reading of the list
 abbrev pub Taken : {R X : Type 0} → Meaning R X → List R → Type 0
-Taken m xs = All (λ r. m.takes r ≡ true) xs
+Taken m xs = AllByRecursion (λ r. m.takes r ≡ true) xs
 
 -- what every method keeps
 pub record Laws {R X : Type 0} (m : Meaning R X) : Type 0 where

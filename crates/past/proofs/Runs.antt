@@ -2,7 +2,7 @@
 use Rattle.std.proofs.Common.{◌≡◌, ℕ, ◌+◌, ◌<◌, ◌≤◌, Bool, true, false, cond, ◌&&◌, eqb, ltb, leb, List, [], ◌∷◌, length, get_or, drop, Result, refl, ap, ◌∙◌, arith}
 use Rattle.std.proofs.ByRecursion.{All-push}
 use Rattle.std.proofs.lemmas.Bool.{and_parts, cond-false, cond-true, eqb-false, ltb-true}
-use Rattle.std.specs.List.{AllByRecursion as All}
+use Rattle.std.specs.List.{AllByRecursion}
 use Rattle.fault.specs.declared.Fault.{Fault}
 use Rattle.method.specs.Meaning.{Meaning, Taken}
 use Rattle.rows.proofs.Steps.{front}
@@ -26,9 +26,9 @@ kept_by_cond P false A B ls f g = g refl
 
 module _ {R X : Type 0} (m : Meaning R X) (n size : ℕ) where
   AllTaken : List (Line R) → Type 0
-  AllTaken ls = All (λ l. Taken m l.readings) ls
+  AllTaken ls = AllByRecursion (λ l. Taken m l.readings) ls
 
-  call_taken : (c : Call R) (ls : List (Line R)) → All (λ l. Taken m l.readings) ls → All (λ l. Taken m l.readings) (after (call m n size c ls) ls)
+  call_taken : (c : Call R) (ls : List (Line R)) → AllByRecursion (λ l. Taken m l.readings) ls → AllByRecursion (λ l. Taken m l.readings) (after (call m n size c ls) ls)
   unfolding AllTaken
   call_taken (Open x) ls h = kept_by_cond AllTaken (named x) _ _ ls (λ _. kept_by_cond AllTaken (is_open x ls) _ _ ls (λ _. h) (λ _. kept_by_cond AllTaken (ltb (length ls) size) _ _ ls (λ _. All-push (λ l. Taken m l.readings) ls (line x []) h tt) (λ _. h))) (λ _. h)
   call_taken (Read x r) ls h = kept_by_cond AllTaken (named x) _ _ ls (λ _. kept_by_cond AllTaken (is_open x ls) _ _ ls (λ _. kept_by_cond AllTaken (m.takes r) _ _ ls (λ t. kept_by_cond AllTaken (ltb (length (standing ls)) n) _ _ ls (λ _. taken_add m x (r ∷ []) ls (t, tt) h) (λ _. h)) (λ _. h)) (λ _. h)) (λ _. h)
@@ -36,9 +36,9 @@ module _ {R X : Type 0} (m : Meaning R X) (n size : ℕ) where
   call_taken (Pour s g) ls h = kept_by_cond AllTaken (named s && named g) _ _ ls (λ _. kept_by_cond AllTaken (is_open s ls && is_open g ls) _ _ ls (λ _. kept_by_cond AllTaken (eqb s g) _ _ ls (λ _. h) (λ _. kept_by_cond AllTaken (leb (length (readings_of s ls) + length (readings_of g ls)) n) _ _ ls (λ _. all_remove (λ l. Taken m l.readings) s (add g (readings_of s ls) ls) (taken_add m g (readings_of s ls) ls (taken_of m s ls h) h)) (λ _. h))) (λ _. h)) (λ _. h)
   call_taken Close ls h = kept_by_cond AllTaken (ltb (length (standing ls)) n) _ _ ls (λ _. h) (λ _. h)
 
-  pub run_taken : (cs : List (Call R)) (ls : List (Line R)) → All (λ l. Taken m l.readings) ls → All (λ l. Taken m l.readings) (run m n size cs ls)
+  pub run_taken : (cs : List (Call R)) (ls : List (Line R)) → AllByRecursion (λ l. Taken m l.readings) ls → AllByRecursion (λ l. Taken m l.readings) (run m n size cs ls)
   run_taken [] ls h = h
-  run_taken (c ∷ cs) ls h = elim (ends m n size c ls) as (λ b. All (λ l. Taken m l.readings) (cond b ls (run m n size cs (after (call m n size c ls) ls)))) [ true ↦ h | false ↦ run_taken cs (after (call m n size c ls) ls) (call_taken c ls h) ]
+  run_taken (c ∷ cs) ls h = elim (ends m n size c ls) as (λ b. AllByRecursion (λ l. Taken m l.readings) (cond b ls (run m n size cs (after (call m n size c ls) ls)))) [ true ↦ h | false ↦ run_taken cs (after (call m n size c ls) ls) (call_taken c ls h) ]
 
   Few : List (Line R) → Type 0
   Few ls = length (standing ls) ≤ n

@@ -2,7 +2,7 @@
 use Rattle.std.proofs.Common.{◌≡◌, ℕ, zero, suc, ◌+◌, ◌<◌, ◌≤◌, List, [], ◌∷◌, ◌++◌, length, get_or, pos, Some, None, Option, sym, refl, ap, ◌∙◌, subst, arith}
 use Rattle.std.proofs.ByRecursion.{All-get_or, All-push}
 use Rattle.std.proofs.lemmas.List.{length_push, get_or_push}
-use Rattle.std.specs.List.{AllByRecursion as All}
+use Rattle.std.specs.List.{AllByRecursion}
 use Rattle.entry.specs.declared.kinds.Plan.{Plan}
 use Rattle.entry.specs.declared.kinds.Said.{Said}
 use Rattle.entry.specs.declared.kinds.Said.TheVariants.{Planned, Drum, Reading, Pair, Mark}
@@ -17,7 +17,7 @@ use Rattle.sheet.specs.declared.order.Stage.TheVariants.{BeforePlan, BeforeDrums
 abbrev pub Reached : Stage → List Said → Type 0
 Reached BeforePlan xs = xs ≡ []
 Reached (BeforeDrums k) xs = (p : Plan) × (kind_of p ≡ k) × (xs ≡ Planned p ∷ [])
-Reached (AmongDrums k) xs = (p : Plan) × (a : _) × (ys : List Said) × (kind_of p ≡ k) × (xs ≡ Planned p ∷ Drum a ∷ ys) × All (FitsPlan p) ys
+Reached (AmongDrums k) xs = (p : Plan) × (a : _) × (ys : List Said) × (kind_of p ≡ k) × (xs ≡ Planned p ∷ Drum a ∷ ys) × AllByRecursion (FitsPlan p) ys
 
 unplanned : (p : Plan) (x : Said) → FitsPlan p x → IsPlan x → ⊥
 unplanned p (Planned q) f g = f
@@ -26,7 +26,7 @@ unplanned p (Reading a) f g = g
 unplanned p (Pair a b) f g = g
 unplanned p (Mark b) f g = g
 
-in_order : (p : Plan) (a : _) (ys : List Said) → All (FitsPlan p) ys → Ordered (Planned p ∷ Drum a ∷ ys)
+in_order : (p : Plan) (a : _) (ys : List Said) → AllByRecursion (FitsPlan p) ys → Ordered (Planned p ∷ Drum a ∷ ys)
 in_order p a ys f =
     record {
       plan_first = tt;
