@@ -12,7 +12,7 @@ use Rattle.plans.proofs.gauged.Goals as goal
 
 pub returns-in_err-new : goal.returns-in_err-new
 returns-in_err-new c =
-    let p = err_from_is_err_and c.from-residual-in_err-new.result c.from-residual-in_err-new.ensures.1 in
+    let p = err_from_is_err_and c.from_residual-in_err-new.result c.from_residual-in_err-new.ensures.1 in
     let a = c.args in
     let f = c.in_err-new.field-0.0 in
     let e = rw (to_z-of_z w32 a.most c.ranges.most) at c.in_err-new.ensures in

@@ -7,7 +7,7 @@ use Rattle.plans.proofs.known.Goals as goal
 
 pub returns-in_err-criterion : goal.returns-in_err-criterion
 returns-in_err-criterion c =
-    let p = err_from_is_err_and c.from-residual.result c.from-residual.ensures.1 in
+    let p = err_from_is_err_and c.from_residual.result c.from_residual.ensures.1 in
     let a = c.args in
     let e = rw (to_z-of_z w32 a.limit c.ranges.limit, to_z-of_z w32 a.sigma c.ranges.sigma, to_z-of_z w32 a.k c.ranges.k) at c.in_err-criterion.ensures in
     let d = refused (constants a.limit a.sigma a.k) (a.limit, a.sigma, a.k) c.in_err-criterion.field-0.0 e in

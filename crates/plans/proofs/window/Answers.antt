@@ -19,7 +19,7 @@ use Rattle.plans.proofs.window.Goals as goal
 
 pub returns-in_err-first : goal.returns-in_err-first
 returns-in_err-first c =
-    let p = err_from_is_err_and c.from-residual.result c.from-residual.ensures.1 in
+    let p = err_from_is_err_and c.from_residual.result c.from_residual.ensures.1 in
     let a = c.args in
     let f = c.in_err-first.field-0.0 in
     let e = rw (to_z-of_z w32 a.lower c.ranges.lower, to_z-of_z w32 a.k c.ranges.k) at c.in_err-first.ensures in

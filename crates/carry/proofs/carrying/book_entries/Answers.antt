@@ -11,13 +11,13 @@ use Rattle.carry.proofs.carrying.book_entries.Goals as goal
 
 pub returns-in_err-entry : goal.returns-in_err-entry
 returns-in_err-entry c =
-    let p = err_from_is_err_and c.from-residual.result c.from-residual.ensures.1 in
+    let p = err_from_is_err_and c.from_residual.result c.from_residual.ensures.1 in
     let e = unread c.args.n (progress c.loop-booked.reader) _ (view c.loop-booked.booked) _ c.in_err-entry.ensures in
     rw (p.1, p.2) (inr (sym (c.loop-booked.invariant.0 ∙ e)))
 
 pub returns-in_err-within : goal.returns-in_err-within
 returns-in_err-within c =
-    let p = err_from_is_err_and c.from-residual-in_err-within.result c.from-residual-in_err-within.ensures.1 in
+    let p = err_from_is_err_and c.from_residual-in_err-within.result c.from_residual-in_err-within.ensures.1 in
     let q = progress c.loop-booked.reader in
     let q' = progress c.read.new.self in
     let b = view c.loop-booked.booked in

@@ -16,7 +16,7 @@ as_passed r n l k n' l' k' q e f g a =
 
 pub returns-in_err-report : goal.returns-in_err-report
 returns-in_err-report c =
-    let p = err_from_is_err_and c.from-residual-in_err-report.result c.from-residual-in_err-report.ensures.1 in
+    let p = err_from_is_err_and c.from_residual-in_err-report.result c.from_residual-in_err-report.ensures.1 in
     let q = progress c.first_plan.new.reader in
     let u = c.in-Unknown in
     let e = begins_unknown c.args.sheet.now (progress c.in_ok-reader.reader) q c.in_ok-plan.plan u.n u.limit u.k c.in_ok-reader.ensures c.in_ok-plan.ensures u.is in

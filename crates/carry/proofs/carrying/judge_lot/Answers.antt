@@ -10,14 +10,14 @@ use Rattle.carry.proofs.carrying.judge_lot.Goals as goal
 
 pub returns-in_err-n : goal.returns-in_err-n
 returns-in_err-n c =
-    let p = err_from_is_err_and c.from-residual-in_err-n.result c.from-residual-in_err-n.ensures.1 in
+    let p = err_from_is_err_and c.from_residual-in_err-n.result c.from_residual-in_err-n.ensures.1 in
     let m = made_method c.args.limit c.args.k c.ranges.limit c.ranges.k c.new.result c.in_ok-method.method c.in_ok-method.ensures c.new.ensures in
     let d = planned_as c.args.n c.ranges.n c.planned_for.result _ c.in_err-n.ensures c.planned_for.ensures.value in
     rw (p.1, p.2) (inr (sym (lot_unplanned c.args.n c.args.limit c.args.k (progress c.args.reader) m.0 _ d)))
 
 pub returns-in_err-booked : goal.returns-in_err-booked
 returns-in_err-booked c =
-    let p = err_from_is_err_and c.from-residual-in_err-booked.result c.from-residual-in_err-booked.ensures.1 in
+    let p = err_from_is_err_and c.from_residual-in_err-booked.result c.from_residual-in_err-booked.ensures.1 in
     let m = made_method c.args.limit c.args.k c.ranges.limit c.ranges.k c.new.result c.in_ok-method.method c.in_ok-method.ensures c.new.ensures in
     let d = planned_as c.args.n c.ranges.n c.planned_for.result _ c.in_ok-n.ensures c.planned_for.ensures.value in
     let q = progress c.args.reader in

@@ -13,7 +13,7 @@ use Rattle.course.proofs.entries.carry_entries.Goals as goal
 
 pub returns-in_err-entry : goal.returns-in_err-entry
 returns-in_err-entry g c ls h =
-    let p = err_from_is_err_and c.from-residual.result c.from-residual.ensures.1 in
+    let p = err_from_is_err_and c.from_residual.result c.from_residual.ensures.1 in
     let b = c.args.bench.now in
     let m = g.M.Method.meaning b.method in
     let st = g.M.Method.stands in
@@ -24,7 +24,7 @@ returns-in_err-entry g c ls h =
 
 pub returns-in_err-current : goal.returns-in_err-current
 returns-in_err-current g c ls h =
-    let p = err_from_is_err_and c.from-residual-in_err-current.result c.from-residual-in_err-current.ensures.1 in
+    let p = err_from_is_err_and c.from_residual-in_err-current.result c.from_residual-in_err-current.ensures.1 in
     let b = c.args.bench.now in
     let m = g.M.Method.meaning b.method in
     let st = g.M.Method.stands in

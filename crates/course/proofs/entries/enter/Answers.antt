@@ -8,7 +8,7 @@ use Rattle.course.proofs.entries.enter.Goals as goal
 
 pub returns-in_err-read : goal.returns-in_err-read
 returns-in_err-read g c ls h =
-    let p = err_from_is_err_and c.from-residual.result c.from-residual.ensures.1 in
+    let p = err_from_is_err_and c.from_residual.result c.from_residual.ensures.1 in
     let b = c.args.bench.now in
     let m = g.M.Method.meaning b.method in
     let st = g.M.Method.stands in
