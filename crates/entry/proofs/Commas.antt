@@ -1,8 +1,7 @@
 -- One more number of a text of several.
-use Rattle.std.proofs.Common.{◌≡◌, ℕ, zero, suc, ◌+◌, ◌-◌, ◌<◌, ◌≤◌, List, [], ◌∷◌, ◌++◌, length, take, drop, set, ℤ, Ok, Err, Result, sym, refl, ap, ◌∙◌, append_assoc, arith, length-set}
+use Rattle.std.proofs.Common.{◌≡◌, ℕ, zero, suc, ◌+◌, ◌-◌, ◌<◌, List, [], length, take, set, ℤ, Ok, Err, sym, refl, ap, ◌∙◌, arith, length-set}
 use Rattle.std.proofs.lemmas.List.{take_more_set, take_all}
-use Rattle.fault.proofs.Passed.{with, with_more, with_none}
-use Rattle.fault.specs.Located.{then}
+use Rattle.fault.proofs.Passed.{with, with_more}
 use Rattle.fault.specs.declared.Fault.{Fault}
 use Rattle.fault.specs.declared.Fault.TheVariants.{EntryForm}
 use Rattle.entry.specs.Numbers.{number_of, comma, before, behind, numbers_of}

@@ -5,7 +5,6 @@ use Rattle.std.specs.Option.{ok_or}
 use Rattle.fault.specs.Located.{then}
 use Rattle.fault.specs.declared.Fault.{Fault}
 use Rattle.fault.specs.declared.Fault.TheVariants.{EntryForm}
-use Rattle.entry.specs.declared.kinds.Said.{Said}
 use Rattle.entry.specs.Forms.{form_of, mark_of, plan_of, said_of}
 use Rattle.entry.specs.Numbers.{before, behind, number_of, numbers_of, signed_of}
 

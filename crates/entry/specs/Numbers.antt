@@ -1,5 +1,5 @@
 -- Which texts are numbers.
-use Rattle.std.specs.Prelude.{ℕ, zero, suc, ◌+◌, ◌-◌, ◌*◌, Bool, true, false, cond, not, ◌&&◌, List, [], ◌∷◌, length, ℤ, pos, neg_ℤ, Some, None, Ok, Err, Option, Result, ◌==◌, nat_le, slice_index}
+use Rattle.std.specs.Prelude.{ℕ, zero, suc, ◌+◌, ◌-◌, ◌*◌, Bool, cond, not, ◌&&◌, List, [], ◌∷◌, length, ℤ, pos, neg_ℤ, Some, None, Ok, Option, Result, ◌==◌, nat_le, slice_index}
 use Rattle.std.specs.List.{between}
 use Rattle.std.specs.Option.{option_map, ok_or}
 use Rattle.fault.specs.Located.{then}

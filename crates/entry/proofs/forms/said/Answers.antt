@@ -1,4 +1,4 @@
-use Rattle.std.proofs.Common.{◌≡◌, sym, subst}
+use Rattle.std.proofs.Common.{sym, subst}
 use Rattle.entry.specs.Spelled.{Spelled}
 use Rattle.entry.proofs.Spelt.{spelt}
 use Rattle.entry.proofs.forms.said.Goals as goal
@@ -6,6 +6,6 @@ use Rattle.entry.proofs.forms.said.Goals as goal
 pub returns : goal.returns
 returns c =
     record {
-      value = c.said-by-letter.ensures;
-      spelled = subst (Spelled c.args.text.now) (sym c.said-by-letter.ensures) (spelt c.args.text.now);
+      value = c.said_by_letter.ensures;
+      spelled = subst (Spelled c.args.text.now) (sym c.said_by_letter.ensures) (spelt c.args.text.now);
     }

@@ -1,4 +1,4 @@
-use Rattle.std.proofs.Common.{◌≡◌, ℕ, ◌+◌, ◌-◌, ◌*◌, ◌^◌, ◌<◌, ◌≤◌, cond, List, length, get_or, drop, Some, None, sym, refl, ap, ◌∙◌, subst, pow-suc, add-one, arith, rules}
+use Rattle.std.proofs.Common.{◌≡◌, ℕ, ◌+◌, ◌-◌, ◌*◌, ◌^◌, ◌<◌, ◌≤◌, cond, List, length, get_or, drop, Some, None, pow-suc, add-one, arith, rules}
 use native.Mathlib.Nat.{pow-le-pow_right}
 use Rattle.std.proofs.lemmas.List.{at_drop_more, at_drop_all}
 use Rattle.std.proofs.lemmas.Bool.Decides.{nat_tests}
@@ -26,11 +26,11 @@ returns-then-c-lt48 c =
     let i = c.loop-c.invariant.0 in
     record { value = grind (arith, nat_tests); below = tt }
 
-pub overflow-mul-n : goal.overflow-mul-n
-overflow-mul-n c = let h = small c.loop-c.n c.loop-c.c-index c.loop-c.invariant.1 (omega arith) in search rules
+pub overflow_mul-n : goal.overflow_mul-n
+overflow_mul-n c = let h = small c.loop-c.n c.loop-c.c-index c.loop-c.invariant.1 (omega arith) in search rules
 
-pub overflow-add-n : goal.overflow-add-n
-overflow-add-n c = let h = small c.loop-c.n c.loop-c.c-index c.loop-c.invariant.1 (omega arith) in search rules
+pub overflow_add-n : goal.overflow_add-n
+overflow_add-n c = let h = small c.loop-c.n c.loop-c.c-index c.loop-c.invariant.1 (omega arith) in search rules
 
 pub loop-c-preserved : goal.loop-c-preserved
 loop-c-preserved c =
