@@ -1,13 +1,13 @@
 -- The stages of a sheet keep the order of its entries.
-use Rattle.std.proofs.Common.{◌≡◌, ℕ, zero, suc, ◌+◌, ◌<◌, ◌≤◌, List, [], ◌∷◌, ◌++◌, length, get_or, pos, Some, None, Option, sym, refl, ap, ◌∙◌, subst, arith}
+use Rattle.std.proofs.Common.{◌≡◌, ℕ, zero, suc, ◌<◌, List, [], ◌∷◌, ◌++◌, length, pos, Some, None, Option, sym, refl, ap, subst, arith}
 use Rattle.std.proofs.ByRecursion.{All-get_or, All-push}
 use Rattle.std.proofs.lemmas.List.{length_push, get_or_push}
 use Rattle.std.specs.List.{AllByRecursion}
 use Rattle.entry.specs.declared.kinds.Plan.{Plan}
 use Rattle.entry.specs.declared.kinds.Said.{Said}
 use Rattle.entry.specs.declared.kinds.Said.TheVariants.{Planned, Drum, Reading, Pair, Mark}
-use Rattle.sheet.specs.Order.{followed, kind_of, on_reading, on_pair, on_mark}
-use Rattle.sheet.specs.Rules.{FitsPlan, Fits, IsDrum, IsMeasured, IsPlan, Ordered, at}
+use Rattle.sheet.specs.Order.{followed, kind_of}
+use Rattle.sheet.specs.Rules.{FitsPlan, IsDrum, IsMeasured, IsPlan, Ordered, at}
 use Rattle.sheet.specs.declared.order.Kind.{Kind}
 use Rattle.sheet.specs.declared.order.Kind.TheVariants.{OfReadings, OfPairs, OfMarks}
 use Rattle.sheet.specs.declared.order.Stage.{Stage}

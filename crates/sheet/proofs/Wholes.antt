@@ -1,11 +1,11 @@
 -- A whole sheet is taken or refused by the rules.
-use Rattle.std.proofs.Common.{◌≡◌, ℕ, zero, suc, ◌+◌, ◌-◌, ◌<◌, ◌≤◌, Bool, true, false, cond, List, [], ◌∷◌, ◌++◌, map, length, get_or, Some, None, Ok, Err, Option, Result, sym, refl, ap, ◌∙◌, subst, ⊎_elim, arith}
+use Rattle.std.proofs.Common.{◌≡◌, ℕ, zero, suc, ◌+◌, ◌<◌, ◌≤◌, Bool, true, false, cond, List, [], ◌∷◌, ◌++◌, length, get_or, Some, None, Ok, Err, Option, Result, sym, refl, ap, ◌∙◌, subst, ⊎_elim, arith}
 use Rattle.std.proofs.lemmas.List.{append-nil, get_or_append_left, get_or_push, length-map, length_push, map_push}
 use Rattle.std.proofs.lemmas.Bool.{cases_lt}
 use Rattle.std.specs.List.{between}
 use Rattle.fault.specs.Located.{located, then}
 use Rattle.fault.specs.declared.Fault.{Fault}
-use Rattle.fault.specs.declared.Fault.TheVariants.{SheetSize, EntryPlace, EntryForm, EntryOrder}
+use Rattle.fault.specs.declared.Fault.TheVariants.{SheetSize, EntryForm, EntryOrder}
 use Rattle.entry.proofs.Formless.{only_form}
 use Rattle.entry.specs.Entries.{Place}
 use Rattle.entry.specs.Forms.{said_of}
@@ -14,7 +14,7 @@ use Rattle.sheet.proofs.Orders.{Reached, reached_more, reached_order, reached_st
 use Rattle.sheet.proofs.Places.{apart, first_misplaced, none_misplaced, part_size, placed_is, placed_true, sized_is, unplaced, unsized}
 use Rattle.fault.proofs.Passed.{with, with_more, with_none}
 use Rattle.sheet.specs.Order.{followed}
-use Rattle.sheet.specs.Reading.{Item, entry_at, item, place_at, standing, step_at}
+use Rattle.sheet.specs.Reading.{Item, item, place_at, standing}
 use Rattle.sheet.specs.Rules.{Begins, Lies, Ordered, Placed, Read, Refused, Sized, Taken, says}
 use Rattle.sheet.specs.Rules.Refused.{wrong_size, misplaced, formless, disordered}
 use Rattle.sheet.specs.Sheets.{items_from, sheet_of}

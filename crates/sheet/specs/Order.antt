@@ -1,5 +1,5 @@
 -- Which entry may follow, by how far a sheet has come.
-use Rattle.std.specs.Prelude.{ℕ, Some, None, Option}
+use Rattle.std.specs.Prelude.{Some, None, Option}
 use Rattle.entry.specs.declared.kinds.Plan.{Plan}
 use Rattle.entry.specs.declared.kinds.Plan.TheVariants.{Known, Unknown, Window, Marks, Gauged, Mean, Paired}
 use Rattle.entry.specs.declared.kinds.Said.{Said}

@@ -1,4 +1,4 @@
-use Rattle.std.proofs.Common.{◌≡◌, ℕ, suc, ◌+◌, ◌-◌, ◌<◌, ◌≤◌, true, false, cond, List, length, Some, None, Ok, Err, sym, ap, ◌∙◌, arith}
+use Rattle.std.proofs.Common.{◌≡◌, ℕ, suc, ◌+◌, ◌-◌, ◌<◌, ◌≤◌, true, false, List, length, Some, None, Ok, Err, sym, ◌∙◌, arith}
 use Rattle.std.proofs.lemmas.Bool.Decides.{nat_tests}
 use Rattle.fault.specs.declared.Fault.TheVariants.{EntryPlace}
 use Rattle.sheet.specs.Table.{misplaced, placed, sized, table_of, count_of, table_end}
@@ -25,12 +25,12 @@ denied s m i a b d = rw (a, ← b, d)
 granted : (s : List ℕ) (m : ℕ) → sized s ≡ true → m ≡ count_of s → misplaced s m 0 ≡ None → Ok m ≡ table_of s
 granted s m a b d = rw (a, ← b, d)
 
-pub returns-then-not-is-placed : goal.returns-then-not-is-placed
-returns-then-not-is-placed c =
+pub returns-then-not-is_placed : goal.returns-then-not-is_placed
+returns-then-not-is_placed c =
     let s = c.args.sheet.now in
     let m = c.word-count.result in
     let i = c.loop-i.i in
-    let p : placed s i ≡ false = sym c.if-not-is-placed.ensures in
+    let p : placed s i ≡ false = sym c.if-not-is_placed.ensures in
     denied s m i (is_sized s (omega arith) (omega arith) (omega arith) (omega arith)) c.word-count.ensures (c.loop-i.invariant ∙ stops s m i (omega arith) p)
 
 pub loop-i-preserved : goal.loop-i-preserved
@@ -38,7 +38,7 @@ loop-i-preserved c =
     let s = c.args.sheet.now in
     let m = c.word-count.result in
     let i = c.loop-i.i in
-    let p : placed s i ≡ true = sym c.if-not-is-placed.ensures in
+    let p : placed s i ≡ true = sym c.if-not-is_placed.ensures in
     c.loop-i.invariant ∙ goes s m i (omega arith) p
 
 pub returns : goal.returns

@@ -1,25 +1,24 @@
-use Rattle.std.proofs.Common.{◌≡◌, ℕ, ◌+◌, ◌-◌, cond, List, [], ◌∷◌, ◌++◌, map, Some, None, Ok, Err, vec_items, sym, ap, ◌∙◌, subst, inl, inr, arith}
+use Rattle.std.proofs.Common.{◌≡◌, cond, [], ◌∷◌, ◌++◌, map, Some, None, Ok, Err, vec_items, sym, ap, ◌∙◌, subst, inr, arith}
 use Rattle.std.proofs.lemmas.List.{append-nil, map_push}
 use Rattle.std.proofs.lemmas.Result.{err_from_is_err_and}
-use Rattle.sheet.specs.Reading.{Item, advanced, item_of, progress, seen, step_at}
-use Rattle.sheet.specs.Sheets.{items_from, sheet_of}
+use Rattle.sheet.specs.Reading.{advanced, item_of, progress, seen, step_at}
 use Rattle.sheet.proofs.Runs.{Pace, steps, stops, refuses, goes, ends_in, ends}
 use Rattle.sheet.proofs.whole.gather.Goals as goal
 
-pub returns-in-err-entry : goal.returns-in-err-entry
-returns-in-err-entry c =
-    let p = err_from_is_err_and c.from-residual-in-err-entry.result c.from-residual-in-err-entry.ensures.1 in
+pub returns-in_err-entry : goal.returns-in_err-entry
+returns-in_err-entry c =
+    let p = err_from_is_err_and c.from_residual-in_err-entry.result c.from_residual-in_err-entry.ensures.1 in
     let v = c.loop-found.invariant in
     let q = progress c.loop-found.reader in
-    let w = refuses q _ _ c.in-err-entry.ensures in
-    let h = subst (λ s. step_at s q.next q.stage ≡ Err c.in-err-entry.field-0.0) v.0 w.1 in
-    let e = v.1 ∙ ends_in c.args.sheet.now q.count q.next q.stage c.in-err-entry.field-0.0 _ w.0 h in
+    let w = refuses q _ _ c.in_err-entry.ensures in
+    let h = subst (λ s. step_at s q.next q.stage ≡ Err c.in_err-entry.field-0.0) v.0 w.1 in
+    let e = v.1 ∙ ends_in c.args.sheet.now q.count q.next q.stage c.in_err-entry.field-0.0 _ w.0 h in
     rw (p.1, p.2) (inr (sym e))
 
 -- what the reader did, where it answered an entry
-module _ (c : goal.Else-is-err) where
+module _ (c : goal.Else-is_err) where
   paced : ◌≡◌ {A = Pace} (Ok (Some (item_of c.in-Some.entry)), progress c.read.new.self) (advanced (progress c.loop-found.reader))
-  paced = subst (λ o. ◌≡◌ {A = Pace} (seen (Ok o), progress c.read.new.self) (advanced (progress c.loop-found.reader))) c.in-Some.is c.in-ok-entry.ensures
+  paced = subst (λ o. ◌≡◌ {A = Pace} (seen (Ok o), progress c.read.new.self) (advanced (progress c.loop-found.reader))) c.in-Some.is c.in_ok-entry.ensures
 
 pub loop-found-smaller : goal.loop-found-smaller
 loop-found-smaller c =
@@ -36,7 +35,7 @@ loop-found-preserved c =
     let found = map item_of (vec_items c.loop-found.found) in
     let h = subst (λ s. step_at s q.next q.stage ≡ Ok (x, q'.stage)) v.0 w.1 in
     let pushed : vec_items c.push.new.self ≡ vec_items c.loop-found.found ++ c.in-Some.entry ∷ [] =
-    c.push.ensures.items ∙ ap (λ b. cond b (vec_items c.loop-found.found ++ c.in-Some.entry ∷ []) (vec_items c.loop-found.found)) c.if-is-err.ensures.negation in
+    c.push.ensures.items ∙ ap (λ b. cond b (vec_items c.loop-found.found ++ c.in-Some.entry ∷ []) (vec_items c.loop-found.found)) c.if-is_err.ensures.negation in
     let f : map item_of (vec_items c.push.new.self) ≡ found ++ x ∷ [] = ap (map item_of) pushed ∙ map_push item_of (vec_items c.loop-found.found) c.in-Some.entry in (
       w.2 ∙ v.0,
       v.1 ∙ goes c.args.sheet.now q.count q.next q.stage q'.stage x found w.0 h ∙ rw (f, w.3, w.4),
@@ -47,7 +46,7 @@ returns c =
     let v = c.loop-found.invariant in
     let q = progress c.loop-found.reader in
     let found = map item_of (vec_items c.loop-found.found) in
-    let n : c.in-ok-entry.field-0 ≡ None = c.in-default.is in
-    let h = subst (λ o. ◌≡◌ {A = Pace} (seen (Ok o), progress c.read.new.self) (advanced q)) n c.in-ok-entry.ensures in
+    let n : c.in_ok-entry.field-0 ≡ None = c.in_default.is in
+    let h = subst (λ o. ◌≡◌ {A = Pace} (seen (Ok o), progress c.read.new.self) (advanced q)) n c.in_ok-entry.ensures in
     let e = ends c.args.sheet.now q.count q.next q.stage found (stops q (progress c.read.new.self) h) in
     inr (sym (v.1 ∙ e ∙ ap Ok (append-nil found)))
