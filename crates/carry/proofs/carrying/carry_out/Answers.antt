@@ -14,26 +14,26 @@ as_passed : (r : Result Lot Fault) (n l k n' l' k' : ℤ) (q : Progress) → n' 
 as_passed r n l k n' l' k' q e f g a =
     subst (λ x. Answered r (lot_under x l k q)) e (subst (λ x. Answered r (lot_under n' x k q)) f (subst (λ x. Answered r (lot_under n' l' x q)) g a))
 
-pub returns-in_err-report : goal.returns-in_err-report
-returns-in_err-report c =
-    let p = err_from_is_err_and c.from_residual-in_err-report.result c.from_residual-in_err-report.ensures.1 in
+pub returns-in_err-report-in-Unknown : goal.returns-in_err-report-in-Unknown
+returns-in_err-report-in-Unknown c =
+    let p = err_from_is_err_and c.from_residual-in_err-report-in-Unknown.result c.from_residual-in_err-report-in-Unknown.ensures.1 in
     let q = progress c.first_plan.new.reader in
     let u = c.in-Unknown in
     let e = begins_unknown c.args.sheet.now (progress c.in_ok-reader.reader) q c.in_ok-plan.plan u.n u.limit u.k c.in_ok-reader.ensures c.in_ok-plan.ensures u.is in
-    let f = c.in_err-report.field-0.0 in
+    let f = c.in_err-report-in-Unknown.field-0.0 in
     let n : to_z w32 (of_z w32 u.n) ≡ u.n = search rules in
     let l : to_z w32 (of_z w32 u.limit) ≡ u.limit = search rules in
     let k : to_z w32 (of_z w32 u.k) ≡ u.k = search rules in
     rw (p.1, p.2)
-    (subst (λ x. Answered {X = Came} (Err f) x) (sym e) (passed_on (lot_under u.n u.limit u.k q) (λ x. Ok (judged_lot x)) f (as_passed (Err f) _ _ _ _ _ _ q n l k c.in_err-report.ensures)))
+    (subst (λ x. Answered {X = Came} (Err f) x) (sym e) (passed_on (lot_under u.n u.limit u.k q) (λ x. Ok (judged_lot x)) f (as_passed (Err f) _ _ _ _ _ _ q n l k c.in_err-report-in-Unknown.ensures)))
 
-pub returns-in_ok-report : goal.returns-in_ok-report
-returns-in_ok-report c =
+pub returns-in_ok-report-in-Unknown : goal.returns-in_ok-report-in-Unknown
+returns-in_ok-report-in-Unknown c =
     let q = progress c.first_plan.new.reader in
     let u = c.in-Unknown in
     let e = begins_unknown c.args.sheet.now (progress c.in_ok-reader.reader) q c.in_ok-plan.plan u.n u.limit u.k c.in_ok-reader.ensures c.in_ok-plan.ensures u.is in
     let n : to_z w32 (of_z w32 u.n) ≡ u.n = search rules in
     let l : to_z w32 (of_z w32 u.limit) ≡ u.limit = search rules in
     let k : to_z w32 (of_z w32 u.k) ≡ u.k = search rules in
-    let g = answered_ok (lot_under u.n u.limit u.k q) (lot_of c.in_ok-report.report) (as_passed (Ok (lot_of c.in_ok-report.report)) _ _ _ _ _ _ q n l k c.in_ok-report.ensures) in
+    let g = answered_ok (lot_under u.n u.limit u.k q) (lot_of c.in_ok-report-in-Unknown.report) (as_passed (Ok (lot_of c.in_ok-report-in-Unknown.report)) _ _ _ _ _ _ q n l k c.in_ok-report-in-Unknown.ensures) in
     inr (sym (e ∙ ap (then (λ x. Ok (judged_lot x))) g))
