@@ -97,6 +97,21 @@ fn told(n: u32, pages: &mut [Page<Sums>], call: Call) -> Result<u8, Fault> {
     Ok(number(answer))
 }
 
+// The call on the row, which the words tell of, is refused by the number, and leaves the row as it was.
+fn refused_row<const K: usize>(
+    rt: &impl Abort,
+    n: u32,
+    row: [Page<Sums>; K],
+    call: Call,
+    expected: u8,
+    what: &str,
+) -> Result<(), Fail> {
+    let mut pages = row;
+    assert_eq!(rt; told(n, &mut pages, call)?, expected, "{}", what);
+    assert!(rt; same(&pages, &row), "{}", what);
+    Ok(())
+}
+
 // The call is refused by the number, and leaves the row as it was.
 fn refused<const K: usize>(
     rt: &impl Abort,
@@ -105,10 +120,7 @@ fn refused<const K: usize>(
     call: Call,
     expected: u8,
 ) -> Result<(), Fail> {
-    let mut pages = row;
-    assert_eq!(rt; told(n, &mut pages, call)?, expected);
-    assert!(rt; same(&pages, &row));
-    Ok(())
+    refused_row(rt, n, row, call, expected, "this row")
 }
 
 // Every call on the row is refused by the number.
@@ -117,15 +129,16 @@ fn all_refused<const K: usize>(
     n: u32,
     row: [Page<Sums>; K],
     expected: u8,
+    what: &str,
 ) -> Result<(), Fail> {
-    refused(rt, n, row, Call::Open(0), expected)?;
-    refused(rt, n, row, Call::Open(9), expected)?;
-    refused(rt, n, row, Call::Read(1, 2001), expected)?;
-    refused(rt, n, row, Call::Read(1, 5), expected)?;
-    refused(rt, n, row, Call::Strike(1), expected)?;
-    refused(rt, n, row, Call::Pour(1, 2), expected)?;
-    refused(rt, n, row, Call::Pour(1, 1), expected)?;
-    refused(rt, n, row, Call::Close, expected)
+    refused_row(rt, n, row, Call::Open(0), expected, what)?;
+    refused_row(rt, n, row, Call::Open(9), expected, what)?;
+    refused_row(rt, n, row, Call::Read(1, 2001), expected, what)?;
+    refused_row(rt, n, row, Call::Read(1, 5), expected, what)?;
+    refused_row(rt, n, row, Call::Strike(1), expected, what)?;
+    refused_row(rt, n, row, Call::Pour(1, 2), expected, what)?;
+    refused_row(rt, n, row, Call::Pour(1, 1), expected, what)?;
+    refused_row(rt, n, row, Call::Close, expected, what)
 }
 
 // The call is granted, and leaves the other row.
@@ -230,21 +243,63 @@ fn setting_up(rt: HostRuntime) -> Result<(), Fail> {
 
 #[test]
 fn rows_of_a_wrong_size(rt: HostRuntime) -> Result<(), Fail> {
-    all_refused(&rt, 2, [], 7)?;
-    all_refused(&rt, 2, [BLANK; 65], 7)?;
-    all_refused(&rt, 2, [five(1); 65], 7)
+    all_refused(&rt, 2, [], 7, "no page")?;
+    all_refused(&rt, 2, [BLANK; 65], 7, "65 blank pages")?;
+    all_refused(&rt, 2, [five(1); 65], 7, "65 pages with readings")
 }
 
 #[test]
 fn rows_that_no_bench_leaves(rt: HostRuntime) -> Result<(), Fail> {
-    all_refused(&rt, 4, [BLANK, five(1)], 8).note("a named page behind a blank one")?;
-    all_refused(&rt, 4, [five(1), five(2), five(1)], 8).note("a name twice")?;
-    all_refused(&rt, 4, [page(1, 1, 5, 24), BLANK], 8).note("too small a sum of squares")?;
-    all_refused(&rt, 4, [five(2), page(1, 1, 2001, 4_004_001)], 8).note("too great a sum")?;
-    all_refused(&rt, 4, [page(1, 1, 0, 4_000_001)], 8).note("too great a sum of squares")?;
-    all_refused(&rt, 50, [page(1, 51, 0, 0)], 8).note("too many readings for a tally")?;
-    all_refused(&rt, 4, [five(1), page(0, 1, 5, 25)], 8).note("a blank page with readings")?;
-    all_refused(&rt, 2, [five(1), five(2), five(3)], 8).note("counts together above n")
+    all_refused(
+        &rt,
+        4,
+        [BLANK, five(1)],
+        8,
+        "a named page behind a blank one",
+    )?;
+    all_refused(&rt, 4, [five(1), five(2), five(1)], 8, "a name twice")?;
+    all_refused(
+        &rt,
+        4,
+        [page(1, 1, 5, 24), BLANK],
+        8,
+        "too small a sum of squares",
+    )?;
+    all_refused(
+        &rt,
+        4,
+        [five(2), page(1, 1, 2001, 4_004_001)],
+        8,
+        "too great a sum",
+    )?;
+    all_refused(
+        &rt,
+        4,
+        [page(1, 1, 0, 4_000_001)],
+        8,
+        "too great a sum of squares",
+    )?;
+    all_refused(
+        &rt,
+        50,
+        [page(1, 51, 0, 0)],
+        8,
+        "too many readings for a tally",
+    )?;
+    all_refused(
+        &rt,
+        4,
+        [five(1), page(0, 1, 5, 25)],
+        8,
+        "a blank page with readings",
+    )?;
+    all_refused(
+        &rt,
+        2,
+        [five(1), five(2), five(3)],
+        8,
+        "counts together above n",
+    )
 }
 
 #[test]
