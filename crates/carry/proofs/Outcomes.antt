@@ -3,7 +3,7 @@ use Rattle.std.proofs.Common.{◌≡◌, ℕ, Bool, true, false, cond, List, ℤ
 use Rattle.std.proofs.lemmas.Int.{to_z-of_z}
 use Rattle.fault.specs.Located.{located, then}
 use Rattle.fault.specs.declared.Fault.{Fault}
-use Rattle.fault.specs.declared.Fault.TheVariants.{NoMemory, PlanConstant}
+use Rattle.fault.specs.declared.Fault.TheVariants.{PlanConstant}
 use Rattle.method.specs.Answers.{given}
 use Rattle.variables.specs.Unknown.{constants, newly}
 use Rattle.variables.specs.declared.unknown.Unknown.{Unknown}

@@ -1,9 +1,8 @@
 -- One more entry of a sheet that is carried out.
-use Rattle.std.proofs.Common.{◌≡◌, ℕ, zero, suc, ◌+◌, ◌-◌, ◌<◌, ◌≤◌, Bool, true, false, cond, List, [], ◌∷◌, ◌++◌, Some, None, Ok, Err, Option, Result, sym, refl, ap, ◌∙◌, subst, arith}
+use Rattle.std.proofs.Common.{◌≡◌, ℕ, suc, ◌+◌, ◌-◌, Some, None, Ok, Err, arith}
 use Rattle.fault.specs.Faults.{met}
-use Rattle.fault.specs.Located.{located, then}
 use Rattle.fault.specs.declared.Fault.{Fault}
-use Rattle.sheet.specs.Reading.{Item, Progress, advanced, step_at}
+use Rattle.sheet.specs.Reading.{Item, Progress, advanced}
 use Rattle.sheet.proofs.Runs.{Pace, steps, stops, refuses}
 use Rattle.carry.specs.Booking.{Books, carried_out}
 use Rattle.carry.specs.Carrying.{books_from, books_of}

@@ -1,5 +1,5 @@
 -- What a sheet that is carried out comes to.
-use Rattle.std.specs.Prelude.{◌≡◌, ℕ, zero, suc, ◌+◌, ◌-◌, cond, ◌&&◌, List, [], ℤ, pos, Some, None, Ok, Err, vec_items, Option, Result, nat_le, nat_lt, unsigned_abs}
+use Rattle.std.specs.Prelude.{◌≡◌, ℕ, zero, suc, ◌+◌, ◌-◌, cond, ◌&&◌, List, [], ℤ, Some, None, Ok, Err, vec_items, Option, Result, nat_le, nat_lt, unsigned_abs}
 use Rattle.fault.specs.Located.{located, then}
 use Rattle.fault.specs.declared.Fault.{Fault}
 use Rattle.fault.specs.declared.Fault.TheVariants.{EntryOrder, PlannedNumber, ReadingsMissing}

@@ -1,10 +1,10 @@
-use Rattle.std.proofs.Common.{◌≡◌, Ok, Err, sym, ap, ◌∙◌, subst, inl, inr}
+use Rattle.std.proofs.Common.{Err, sym, ap, ◌∙◌, subst, inr}
 use Rattle.std.proofs.lemmas.Result.{err_from_is_err_and}
 use Rattle.fault.specs.Located.{then}
 use Rattle.sheet.specs.Reading.{progress}
 use Rattle.sheet.specs.Sheets.{Answered}
 use Rattle.carry.specs.Booking.{view}
-use Rattle.carry.specs.Carrying.{Lot, blank, books_of, closed, reported}
+use Rattle.carry.specs.Carrying.{Lot, blank, books_of, closed}
 use Rattle.carry.proofs.Outcomes.{answered_ok, lot_goes, lot_unplanned, made_method, passed_on, planned_as}
 use Rattle.carry.proofs.carrying.judge_lot.Goals as goal
 

@@ -1,4 +1,4 @@
-use Rattle.std.proofs.Common.{◌≡◌, ◌<◌, ◌≤◌, true, ℤ, Ok, vec_items, sym, ap, subst, arith, w32}
+use Rattle.std.proofs.Common.{◌≡◌, ◌≤◌, true, ℤ, Ok, vec_items, sym, ap, subst, arith, w32}
 use Rattle.std.proofs.ByRecursion.{All-weaker}
 use Rattle.std.proofs.lemmas.Int.{to_z-of_z}
 use Rattle.variables.specs.Sums.{noted, reading}
