@@ -8,7 +8,7 @@ pub returns-in-Ok : goal.returns-in-Ok
 returns-in-Ok g c =
     let b = c.args.bench in
     let m = g.M.Method.meaning b.method in
-    let f = g.Reading.Booked.booked in
+    let f = g.M.Reading.Booked.booked in
     let size = length c.args.pages.now in
     let q = progress c.args.reader in
     record {
