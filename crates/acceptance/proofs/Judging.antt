@@ -1,10 +1,9 @@
 -- The verdict of a judged sheet is the plan's, of the sheet's readings, which stand.
 use Rattle.std.proofs.Common.{◌≡◌, ℕ, suc, ◌+◌, ◌-◌, ◌<◌, Bool, true, false, cond, ltb, List, ◌∷◌, map, length, ℤ, pos, nat_abs, None, Ok, Err, Option, Result, sym, refl, ap, ◌∙◌, subst, arith}
 use Rattle.std.proofs.lemmas.Bool.{ltb-true}
-use Rattle.fault.proofs.Passed.{located_ok, then_ok}
+use Rattle.fault.proofs.Passed.{then_ok}
 use Rattle.fault.specs.Located.{then}
 use Rattle.fault.specs.declared.Fault.{Fault}
-use Rattle.fault.specs.declared.Fault.TheVariants.{PlanConstant}
 use Rattle.method.specs.Meaning.{Meaning}
 use Rattle.method.specs.declared.verdict.Verdict.{Verdict}
 use Rattle.variables.specs.Sums.{sound, summed}

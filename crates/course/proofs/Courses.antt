@@ -1,5 +1,5 @@
 -- One more entry of a course.
-use Rattle.std.proofs.Common.{◌≡◌, ℕ, suc, ◌+◌, ◌-◌, ◌<◌, ◌≤◌, Bool, List, Some, None, Ok, Err, Option, Result, sym, refl, ap, subst, arith}
+use Rattle.std.proofs.Common.{◌≡◌, ℕ, suc, ◌+◌, ◌-◌, Bool, List, Some, None, Ok, Err, Option, Result, sym, refl, ap, subst, arith}
 use Rattle.entry.specs.declared.kinds.Said.{Said}
 use Rattle.fault.specs.Faults.{met}
 use Rattle.fault.specs.Located.{located}

@@ -1,5 +1,5 @@
 -- What closing and setting up come to for a lot.
-use Rattle.std.proofs.Common.{◌≡◌, ℕ, ◌<◌, Bool, ltb, List, [], length, ℤ, Ok, Err, Option, Result, sym, refl, ap, ◌∙◌, subst, arith}
+use Rattle.std.proofs.Common.{◌≡◌, ℕ, ◌<◌, Bool, ltb, List, length, ℤ, Ok, Err, Option, Result, sym, ap, ◌∙◌, subst, arith}
 use Rattle.std.proofs.lemmas.Bool.{cond-false, cond-true, le-ltb, lt-ltb}
 use Rattle.fault.specs.declared.Fault.{Fault}
 use Rattle.fault.specs.declared.Fault.TheVariants.{ReadingsMissing}
@@ -9,8 +9,8 @@ use Rattle.rows.specs.declared.page.Page.{Page}
 use Rattle.bench.specs.Ledger.{Holds, Line, standing}
 use Rattle.entry.specs.declared.kinds.Said.{Said}
 use Rattle.sheet.specs.Reading.{Progress}
-use Rattle.course.specs.Course.{Coursed, natural}
-use Rattle.course.specs.Lots.{LeftUnder, Shown, lot_under, ready, under, verdict_after, verdict_on}
+use Rattle.course.specs.Course.{natural}
+use Rattle.course.specs.Lots.{Shown, lot_under, ready, under, verdict_after, verdict_on}
 
 module _ {R X : Type 0} (m : Meaning R X) (n : ℕ) (ls : List (Line R)) where
   pub closed : (v : Verdict) → length (standing ls) ≡ n → v ≡ m.verdict (m.total (standing ls)) → Ok v ≡ verdict_on m n ls

@@ -5,7 +5,7 @@ use Rattle.std.proofs.lemmas.List.Sorted.{IsPermutation-cons, IsPermutation-refl
 use Rattle.std.proofs.lemmas.Bool.{both_ways, cases_Bool, cond-false, cond-true}
 use Rattle.std.specs.List.Sorted.{IsPermutation}
 use Rattle.fault.proofs.Passed.{located_ok, then_ok}
-use Rattle.fault.specs.Located.{located, then}
+use Rattle.fault.specs.Located.{located}
 use Rattle.fault.specs.declared.Fault.{Fault}
 use Rattle.fault.specs.declared.Fault.TheVariants.{NameNotOpen, NameRange, PlanFull, ReadingNotTaken, RowFull}
 use Rattle.method.specs.Meaning.{Meaning}

@@ -1,5 +1,5 @@
 -- The verdict under a plan with two limits is yes exactly when both limits are met.
-use Rattle.std.proofs.Common.{◌≡◌, true, List, map, ℤ, neg_ℤ, sym, ◌∙◌}
+use Rattle.std.proofs.Common.{List, map, ℤ, neg_ℤ, sym, ◌∙◌}
 use Rattle.std.proofs.lemmas.Bool.{and_from, and_parts}
 use Rattle.method.specs.Verdicts.{yes, yes_lower}
 use Rattle.variables.specs.Sums.{summed}

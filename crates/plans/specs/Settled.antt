@@ -6,7 +6,6 @@ use Rattle.fault.specs.declared.Fault.TheVariants.{PlannedNumber}
 use Rattle.method.specs.Meaning.{Meaning}
 use Rattle.method.specs.Verdicts.{yes}
 use Rattle.variables.specs.Sums.{spread, summed}
-use Rattle.variables.specs.declared.sums.Sums.{Sums}
 use Rattle.criteria.specs.Known.{scatter as known_scatter, margin as known_margin}
 use Rattle.criteria.specs.Unknown.{scatter, margin}
 use Rattle.criteria.specs.Mean.{scatter as mean_scatter, departure}

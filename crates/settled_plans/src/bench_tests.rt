@@ -252,14 +252,56 @@ fn rows_of_a_wrong_size(rt: HostRuntime) -> Result<(), Fail> {
 
 #[test]
 fn rows_that_no_bench_leaves(rt: HostRuntime) -> Result<(), Fail> {
-    all_refused(&rt, 4, [BLANK, five(1)], 8, "a named page behind a blank one")?;
+    all_refused(
+        &rt,
+        4,
+        [BLANK, five(1)],
+        8,
+        "a named page behind a blank one",
+    )?;
     all_refused(&rt, 4, [five(1), five(2), five(1)], 8, "a name twice")?;
-    all_refused(&rt, 4, [page(1, 1, 5, 24), BLANK], 8, "too small a sum of squares")?;
-    all_refused(&rt, 4, [five(2), page(1, 1, 2001, 4_004_001)], 8, "too great a sum")?;
-    all_refused(&rt, 4, [page(1, 1, 0, 4_000_001)], 8, "too great a sum of squares")?;
-    all_refused(&rt, 50, [page(1, 51, 0, 0)], 8, "too many readings for a tally")?;
-    all_refused(&rt, 4, [five(1), page(0, 1, 5, 25)], 8, "a blank page with readings")?;
-    all_refused(&rt, 2, [five(1), five(2), five(3)], 8, "counts together above n")
+    all_refused(
+        &rt,
+        4,
+        [page(1, 1, 5, 24), BLANK],
+        8,
+        "too small a sum of squares",
+    )?;
+    all_refused(
+        &rt,
+        4,
+        [five(2), page(1, 1, 2001, 4_004_001)],
+        8,
+        "too great a sum",
+    )?;
+    all_refused(
+        &rt,
+        4,
+        [page(1, 1, 0, 4_000_001)],
+        8,
+        "too great a sum of squares",
+    )?;
+    all_refused(
+        &rt,
+        50,
+        [page(1, 51, 0, 0)],
+        8,
+        "too many readings for a tally",
+    )?;
+    all_refused(
+        &rt,
+        4,
+        [five(1), page(0, 1, 5, 25)],
+        8,
+        "a blank page with readings",
+    )?;
+    all_refused(
+        &rt,
+        2,
+        [five(1), five(2), five(3)],
+        8,
+        "counts together above n",
+    )
 }
 
 #[test]

@@ -3,7 +3,7 @@ use fault::Fault;
 use std::alloc::{AllocError, AllocFailed};
 use std::io;
 
-#[derive(Clone, Copy)]
+#[derive(Clone, Copy, Debug)]
 pub enum TrialError {
     // A call on the bench answered by another number than was expected; 0 is no refusal.
     Answer { given: u8, expected: u8 },

@@ -1,6 +1,4 @@
-use Rattle.std.proofs.Common.{◌≡◌, true, false, ℤ, neg_ℤ, ◌≤ℤ◌, sym, ap, ◌∙◌, arith, w32, to_z, of_z, rules}
-use lib.Signed.{le_z}
-use borrow.Author.Differences.{ints}
+use Rattle.std.proofs.Common.{◌≡◌, true, ℤ, neg_ℤ, ◌≤ℤ◌, sym, ap, ◌∙◌, w32, rules}
 use Rattle.std.proofs.lemmas.Result.{err_from_is_err_and}
 use Rattle.std.proofs.lemmas.Int.{to_z-of_z}
 use Rattle.std.proofs.lemmas.Bool.{both_ways}

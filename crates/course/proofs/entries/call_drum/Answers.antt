@@ -1,4 +1,4 @@
-use Rattle.std.proofs.Common.{◌≡◌, ltb, [], ◌∷◌, ◌++◌, length, sym, refl, ap, ◌∙◌, subst}
+use Rattle.std.proofs.Common.{ltb, [], ◌∷◌, ◌++◌, length, sym, ◌∙◌, subst}
 use Rattle.bench.specs.Calls.{after, named}
 use Rattle.bench.specs.Ledger.{Holds, is_open, line, opening}
 use Rattle.course.proofs.Drums.{again, denied, granted}

@@ -1,9 +1,8 @@
-use Rattle.std.proofs.Common.{◌≡◌, ◌+◌, List, length, Some, None, Ok, Err, sym, refl, ap, ◌∙◌, subst, arith}
+use Rattle.std.proofs.Common.{◌≡◌, ◌+◌, length, None, Ok, Err, sym, ap, ◌∙◌, subst, arith}
 use Rattle.std.proofs.lemmas.Result.{err_from_is_err_and}
 use Rattle.entry.specs.Entries.{Place}
 use Rattle.sheet.proofs.Runs.{Pace, step_part, steps}
 use Rattle.sheet.specs.Reading.{advanced, item_of, progress, seen}
-use Rattle.bench.specs.Ledger.{Holds, Line}
 use Rattle.course.specs.Course.{Carried, carried}
 use Rattle.fault.proofs.Passed.{located_ok}
 use Rattle.fault.specs.Faults.{met}

@@ -1,4 +1,4 @@
-use Rattle.std.proofs.Common.{◌≡◌, length, Ok, Err, sym, subst}
+use Rattle.std.proofs.Common.{length, Ok, Err, sym, subst}
 use Rattle.std.proofs.lemmas.Result.{err_from_is_err_and}
 use Rattle.bench.specs.Calls.{after}
 use Rattle.bench.specs.Ledger.{Holds, reading}

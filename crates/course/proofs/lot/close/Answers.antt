@@ -1,4 +1,4 @@
-use Rattle.std.proofs.Common.{◌≡◌, ap, ◌∙◌}
+use Rattle.std.proofs.Common.{ap, ◌∙◌}
 use Rattle.course.proofs.Lots.{closed, missing}
 use Rattle.course.proofs.lot.close.Goals as goal
 
