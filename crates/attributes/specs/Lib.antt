@@ -1,4 +1,4 @@
 pub mod Counts
 pub mod Marks
 pub mod Laws
-pub mod MarksMethodLemmas
+pub mod Tested

@@ -5,7 +5,7 @@ ghost use Rattle.variables.specs.Sums.{sound};
 ghost use Rattle.std.specs.Prelude.{◌≡◌, true, refl};
 ghost use Rattle.std.proofs.Common.{subst};
 ghost use Rattle.method.proofs.Tallies.{decides};
-ghost use Rattle.variables.specs.VariablesMethodLemmas.{sound_from, sound_to};
+ghost use Rattle.variables.specs.Tested.{sound_from, sound_to};
 
 use crate::criterion::Criterion;
 use crate::reading::is_reading;

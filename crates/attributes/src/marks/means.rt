@@ -6,7 +6,7 @@ ghost use Rattle.std.specs.Prelude.{◌≡◌, refl};
 ghost use Rattle.std.proofs.Common.{subst};
 ghost use Rattle.std.proofs.Math.Bool;
 ghost use Rattle.method.proofs.Tallies.{decides};
-ghost use Rattle.attributes.specs.MarksMethodLemmas.{sound_from, sound_to};
+ghost use Rattle.attributes.specs.Tested.{sound_from, sound_to};
 
 use super::Marks;
 use crate::counts::Counts;

@@ -5,7 +5,7 @@ ghost use Rattle.variables.specs.Unknown.{unknown};
 ghost use Rattle.std.specs.Prelude.{◌≡◌, true, refl};
 ghost use Rattle.std.proofs.Common.{subst};
 ghost use Rattle.method.proofs.Tallies.{decides};
-ghost use Rattle.variables.specs.UnknownMethodLemmas.{sound_from, sound_to};
+ghost use Rattle.variables.specs.Tested.{sound_from, sound_to};
 
 use super::Unknown;
 use crate::reading::is_reading;

@@ -1,3 +1,4 @@
+-- The test of a tally's numbers tells whether they are sound.
 use Rattle.std.specs.Prelude.{◌≡◌, true, nat_le}
 use Rattle.std.proofs.lemmas.Bool.{and_parts, and_from, leb-true, le-leb}
 use Rattle.attributes.specs.declared.counts.Counts.{Counts}

@@ -1,3 +1,4 @@
+-- The test of a tally's numbers tells whether they are sound.
 use Rattle.std.specs.Prelude.{◌≡◌, ◌*◌, true, pos, ◌≤ℤ◌, int_le, nat_le, unsigned_abs}
 use Rattle.std.proofs.Common.{arith}
 use Rattle.std.proofs.lemmas.Int.{ints}
