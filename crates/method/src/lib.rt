@@ -39,8 +39,6 @@ pub trait Method {
     // whether some tally gives the numbers
     ghost stands: { Self.Numbers → Bool };
 
-    ghost decided: { (x : Self.Numbers) → Decides (stands x) ((t : Self.Tally) × (of t ≡ x)) };
-
     // The plain numbers of a tally.
     fn numbers(&self, t: Self::Tally) -> Self::Numbers
         ensures { result ≡ of t };
@@ -76,4 +74,6 @@ pub trait Method {
     // What is said of the lot that the readings were taken from.
     fn verdict(&self, t: Self::Tally) -> Verdict
         ensures { result ≡ (meaning self.now).verdict (of t) };
+
+    ghost decided: { (x : Self.Numbers) → Decides (stands x) ((t : Self.Tally) × (of t ≡ x)) };
 }
