@@ -75,5 +75,6 @@ pub trait Method {
     fn verdict(&self, t: Self::Tally) -> Verdict
         ensures { result ≡ (meaning self.now).verdict (of t) };
 
+    // `stands` tells it; behind the functions a ghost member is a law, above them it would be data
     ghost decided: { (x : Self.Numbers) → Decides (stands x) ((t : Self.Tally) × (of t ≡ x)) };
 }

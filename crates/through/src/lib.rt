@@ -3,7 +3,6 @@
 
 ghost use Rattle.std.specs.Prelude.{◌≡◌};
 ghost use Rattle.through.specs.Through.{through, through_laws};
-ghost use Rattle.std.proofs.Common.{rules};
 
 pub mod difference;
 pub mod gauge;
@@ -82,7 +81,7 @@ impl<F: Passing, M: Method<Reading = F::Below>> Method for Through<F, M> {
 
     ghost stands = { M.Method.stands };
 
-    ghost decided = { Prim.search rules };
+    ghost decided = { M.Method.decided };
 
     fn numbers(&self, t: M::Tally) -> M::Numbers {
         self.below.numbers(t)

@@ -2,9 +2,8 @@
 ghost use Rattle.attributes.specs.Counts.{sound};
 ghost use Rattle.attributes.specs.Laws.{marks_laws};
 ghost use Rattle.attributes.specs.Marks.{marks};
-ghost use Rattle.std.specs.Prelude.{◌≡◌, refl};
+ghost use Rattle.std.specs.Prelude.{◌≡◌, true, refl};
 ghost use Rattle.std.proofs.Common.{subst};
-ghost use Rattle.std.proofs.Math.Bool;
 ghost use Rattle.method.proofs.Tallies.{decides};
 ghost use Rattle.attributes.specs.Tested.{sound_from, sound_to};
 
@@ -33,7 +32,7 @@ impl Method for Marks {
 
     ghost stands = { sound };
 
-    ghost decided = { λ x. decides (sound x) (λ e. (record { counts = x; ok = sound_from x e }, refl)) (λ p. subst (λ y. sound y ≡ Bool.true) p.1 (sound_to p.0.counts p.0.ok)) };
+    ghost decided = { λ x. decides (sound x) (λ e. (record { counts = x; ok = sound_from x e }, refl)) (λ p. subst (λ y. sound y ≡ true) p.1 (sound_to p.0.counts p.0.ok)) };
 
     fn numbers(&self, t: MarkTally) -> Counts {
         t.counts()
