@@ -1,2 +1,3 @@
 pub mod Faults
 pub mod Located
+pub mod Printed

@@ -5,8 +5,13 @@ ghost use Rattle.std.specs.Prelude.{◌≡◌};
 ghost use Rattle.fault.specs.Faults.{entry, layer, met, number};
 ghost use Rattle.fault.specs.Located.{located};
 
+mod memory;
+mod printing;
+
+use std::error::Error;
+
 // Where a refusal comes from.
-#[derive(Clone, Copy)]
+#[derive(Clone, Copy, Debug, PartialEq, Eq)]
 pub enum Layer {
     Sheet,
     Entry,
@@ -16,7 +21,7 @@ pub enum Layer {
 }
 
 // What was refused, with the entry at which it was met: 0 where the call had no sheet.
-#[derive(Clone, Copy, Debug)]
+#[derive(Clone, Copy, Debug, PartialEq, Eq)]
 pub enum Fault {
     SheetSize,
     EntryPlace(u16),
@@ -71,14 +76,12 @@ impl Fault {
         ensures { result ≡ layer self }
     {
         match self {
-            Fault::SheetSize => Layer::Sheet,
-            Fault::EntryPlace(_) => Layer::Sheet,
-            Fault::EntryForm(_) => Layer::Entry,
-            Fault::EntryOrder(_) => Layer::Entry,
-            Fault::PlanConstant(_) => Layer::Method,
-            Fault::PlannedNumber(_) => Layer::Method,
-            Fault::ReadingNotTaken(_) => Layer::Method,
-            Fault::TallyFull(_) => Layer::Method,
+            Fault::SheetSize | Fault::EntryPlace(_) => Layer::Sheet,
+            Fault::EntryForm(_) | Fault::EntryOrder(_) => Layer::Entry,
+            Fault::PlanConstant(_)
+            | Fault::PlannedNumber(_)
+            | Fault::ReadingNotTaken(_)
+            | Fault::TallyFull(_) => Layer::Method,
             Fault::NoMemory => Layer::Machine,
             _ => Layer::Bench,
         }
@@ -88,25 +91,23 @@ impl Fault {
         ensures { result ≡ entry self }
     {
         match self {
-            Fault::SheetSize => 0,
-            Fault::EntryPlace(i) => i,
-            Fault::EntryForm(i) => i,
-            Fault::EntryOrder(i) => i,
-            Fault::PlanConstant(i) => i,
-            Fault::PlannedNumber(i) => i,
-            Fault::RowSize(i) => i,
-            Fault::RowInconsistent(i) => i,
-            Fault::NameRange(i) => i,
-            Fault::NameOpen(i) => i,
-            Fault::RowFull(i) => i,
-            Fault::NameNotOpen(i) => i,
-            Fault::PouredOntoItself(i) => i,
-            Fault::ReadingNotTaken(i) => i,
-            Fault::PouredPastPlan(i) => i,
-            Fault::PlanFull(i) => i,
-            Fault::TallyFull(i) => i,
-            Fault::ReadingsMissing => 0,
-            Fault::NoMemory => 0,
+            Fault::SheetSize | Fault::ReadingsMissing | Fault::NoMemory => 0,
+            Fault::EntryPlace(i)
+            | Fault::EntryForm(i)
+            | Fault::EntryOrder(i)
+            | Fault::PlanConstant(i)
+            | Fault::PlannedNumber(i)
+            | Fault::RowSize(i)
+            | Fault::RowInconsistent(i)
+            | Fault::NameRange(i)
+            | Fault::NameOpen(i)
+            | Fault::RowFull(i)
+            | Fault::NameNotOpen(i)
+            | Fault::PouredOntoItself(i)
+            | Fault::ReadingNotTaken(i)
+            | Fault::PouredPastPlan(i)
+            | Fault::PlanFull(i)
+            | Fault::TallyFull(i) => i,
         }
     }
 
@@ -115,7 +116,7 @@ impl Fault {
         ensures { result ≡ met i self }
     {
         match self {
-            Fault::SheetSize => Fault::SheetSize,
+            Fault::SheetSize | Fault::ReadingsMissing | Fault::NoMemory => self,
             Fault::EntryPlace(_) => Fault::EntryPlace(i),
             Fault::EntryForm(_) => Fault::EntryForm(i),
             Fault::EntryOrder(_) => Fault::EntryOrder(i),
@@ -132,8 +133,6 @@ impl Fault {
             Fault::PouredPastPlan(_) => Fault::PouredPastPlan(i),
             Fault::PlanFull(_) => Fault::PlanFull(i),
             Fault::TallyFull(_) => Fault::TallyFull(i),
-            Fault::ReadingsMissing => Fault::ReadingsMissing,
-            Fault::NoMemory => Fault::NoMemory,
         }
     }
 }
@@ -142,8 +141,7 @@ impl Fault {
 pub fn within<T>(answer: Result<T, Fault>, i: u16) -> Result<T, Fault>
     ensures { result ≡ located i answer }
 {
-    match answer {
-        Ok(value) => Ok(value),
-        Err(fault) => Err(fault.at(i)),
-    }
+    answer.map_err(|fault| fault.at(i))
 }
+
+impl Error for Fault {}

@@ -1,5 +1,5 @@
 -- What a verdict says, and how it comes from a comparison.
-use Rattle.std.specs.Prelude.{◌≡◌, Bool, true, false, cond, ◌&&◌, ℤ, int_le, refl}
+use Rattle.std.specs.Prelude.{◌≡◌, ℕ, Bool, true, false, cond, ◌&&◌, List, ℤ, int_le, refl, codes}
 use Rattle.method.specs.declared.verdict.Verdict.{Verdict}
 use Rattle.method.specs.declared.verdict.Verdict.TheVariants.{Accepted, NotAccepted}
 
@@ -7,6 +7,16 @@ use Rattle.method.specs.declared.verdict.Verdict.TheVariants.{Accepted, NotAccep
 abbrev pub yes : Verdict → Bool
 yes Accepted = true
 yes NotAccepted = false
+
+-- accepted where it is true
+abbrev pub found : Bool → Verdict
+found true = Accepted
+found false = NotAccepted
+
+-- what is printed of it
+abbrev pub words : Verdict → List ℕ
+words Accepted = codes "accepted"
+words NotAccepted = codes "not accepted"
 
 -- accepted where the left number is at most the right one
 abbrev pub compared : ℤ → ℤ → Verdict

@@ -11,14 +11,14 @@ pub mod verdict;
 use fault::Fault;
 use verdict::Verdict;
 
-// The most readings that a plan asks for.
-const MOST_PLANNED: i32 = 50;
+// The most readings that a plan asks for, and that a tally holds.
+pub const MOST_PLANNED: u32 = 50;
 
 // Whether n readings may be planned for a sample.
 pub fn is_planned(n: i32) -> bool
     ensures { result ≡ planned n }
 {
-    1 <= n && n <= MOST_PLANNED
+    (1..=MOST_PLANNED as i32).contains(&n)
 }
 
 pub trait Method {
