@@ -1,18 +1,17 @@
 -- The verdict is yes exactly when the marks meet what is asked.
-use Rattle.std.proofs.Common.{◌≡◌, ℕ, ◌≤◌, true, pos, sym, ◌∙◌, arith}
-use lib.Signed.{le_z}
-use borrow.Author.Differences.{ints}
-use Rattle.method.specs.Verdicts.{yes_compared}
+use Rattle.std.proofs.Common.{ℕ, ◌≤◌, pos, ◌≤ℤ◌, arith}
+use Rattle.std.proofs.lemmas.Int.{ints}
+use Rattle.method.proofs.Exactly.{compared_exactly}
 use Rattle.attributes.specs.declared.counts.Counts.{Counts}
 use Rattle.attributes.specs.Marks.{judged, Tells}
 
-le_from : (a b : ℕ) → le_z (pos a) (pos b) ≡ true → a ≤ b
-le_from a b h = omega (arith, ints)
+from_pos : (a b : ℕ) → pos a ≤ℤ pos b → a ≤ b
+from_pos a b h = omega (arith, ints)
 
-le_to : (a b : ℕ) → a ≤ b → le_z (pos a) (pos b) ≡ true
-le_to a b h = grind (arith, ints)
+to_pos : (a b : ℕ) → a ≤ b → pos a ≤ℤ pos b
+to_pos a b h = omega (arith, ints)
 
 pub marks_tells : (most : ℕ) (x : Counts) → Tells (judged most x) most x
 marks_tells most x =
-    let e = yes_compared (pos x.z) (pos most) in
-    (λ h. le_from x.z most (sym e ∙ h), λ u. e ∙ le_to x.z most u)
+    let e = compared_exactly (pos x.z) (pos most) in
+    (λ h. from_pos x.z most (e.0 h), λ u. e.1 (to_pos x.z most u))

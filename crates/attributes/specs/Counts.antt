@@ -1,7 +1,6 @@
 -- The numbers of lists of marks, and which numbers are those of a tally.
-use Rattle.std.specs.Prelude.{◌+◌, ◌≤◌, Bool, cond, ◌&&◌, List, [], ◌∷◌, Ok, Err, Result, nat_le}
-use Rattle.fault.specs.declared.Fault.{Fault}
-use Rattle.fault.specs.declared.Fault.TheVariants.{TallyFull}
+use Rattle.std.specs.Prelude.{◌+◌, ◌≤◌, Bool, true, cond, ◌&&◌, List, [], ◌∷◌, nat_le}
+use Rattle.inspection.specs.Tallied.{Tallied}
 use Rattle.attributes.specs.declared.counts.Counts.{Counts}
 
 -- the numbers of no marks
@@ -29,10 +28,11 @@ Sound x = (x.n ≤ 50) × (x.z ≤ x.n)
 abbrev pub sound : Counts → Bool
 sound x = nat_le x.n 50 && nat_le x.z x.n
 
--- two tallies as one, refused past 50 marks
-abbrev pub pooled : Counts → Counts → Result Counts Fault
-pooled x y = cond (nat_le (x.n + y.n) 50) (Ok (together x y)) (Err (TallyFull 0))
-
--- a tally with one more mark
-abbrev pub noted : Counts → Bool → Result Counts Fault
-noted x r = pooled x (marked (r ∷ []))
+-- what is kept of lists of marks: any mark is taken
+abbrev pub kept : Tallied Bool Counts
+kept = record {
+  takes = λ _. true;
+  total = marked;
+  join = together;
+  count = λ x. x.n;
+}

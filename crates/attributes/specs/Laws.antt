@@ -2,8 +2,10 @@
 use Rattle.std.specs.Prelude.{◌≡◌, ℕ, Bool, List, [], ◌∷◌, ◌++◌, length, refl}
 use Rattle.std.proofs.Common.{sym, ap, ◌∙◌, arith}
 use Rattle.attributes.specs.declared.counts.Counts.{Counts}
-use Rattle.attributes.specs.Counts.{none, alone, together, marked}
-use Rattle.attributes.specs.Marks.{marks}
+use Rattle.attributes.specs.Counts.{none, alone, together, marked, kept}
+use Rattle.attributes.specs.Marks.{allowed, judged, marks}
+use Rattle.inspection.specs.Tallied.{inspected}
+use Rattle.method.specs.declared.verdict.Verdict.{Verdict}
 use Rattle.method.specs.Meaning.{Laws}
 
 same_counts : (x y : Counts) → x.n ≡ y.n → x.z ≡ y.z → x ≡ y
@@ -28,8 +30,9 @@ pub counted : (xs : List Bool) → (marked xs).n ≡ length xs
 counted [] = refl
 counted (x ∷ xs) = omega (arith, counted xs)
 
-pub marks_laws : (most : ℕ) → Laws (marks most)
-marks_laws most = record {
+-- whatever a method on marks decides by
+pub counts_laws : (a : ℕ → Bool) (j : Counts → Verdict) → Laws (inspected kept a j)
+counts_laws a j = record {
   appended = λ xs ys _ _. appended xs ys;
   assoc = assoc;
   comm = comm;
@@ -37,3 +40,6 @@ marks_laws most = record {
   counted = λ xs _. counted xs;
   shared = λ x y. omega arith;
 }
+
+pub marks_laws : (most : ℕ) → Laws (marks most)
+marks_laws most = counts_laws (allowed most) (judged most)

@@ -1,13 +1,14 @@
-// The method of marks: its constant, and its verdict.
+// The criterion of marks: its constant, and its verdict.
 ghost use Rattle.std.specs.Prelude.{◌≡◌, ◌≤◌};
 ghost use Rattle.method.specs.Answers.{given};
-ghost use Rattle.attributes.specs.Marks.{Tells, judged, newly};
+ghost use Rattle.attributes.specs.Marks.{Tells, allowed, judged, newly};
 
 use crate::tally::MarkTally;
 use fault::Fault;
+use inspection::criterion::Criterion;
+use inspection::tallying::Tallying;
+use method::MOST_PLANNED;
 use method::verdict::Verdict;
-
-pub mod means;
 
 // The greatest number that a plan may let not conform.
 const GREATEST: i32 = 49;
@@ -23,7 +24,7 @@ impl Marks {
     pub fn new(most: i32) -> Result<Marks, Fault>
         ensures { given (λ m. m.most) result ≡ newly most }
     {
-        if 0 <= most && most <= GREATEST {
+        if (0..=GREATEST).contains(&most) {
             Ok(Marks { most: most as u32 })
         } else {
             Err(Fault::PlanConstant(0))
@@ -35,6 +36,22 @@ impl Marks {
         ensures value { result ≡ judged self.most t.counts }
         ensures exact { Tells result self.most t.counts }
     {
-        Verdict::at_most(t.counts().z as i64, self.most as i64)
+        Verdict::at_most(t.numbers().z as i64, self.most as i64)
+    }
+}
+
+impl Criterion for Marks {
+    type Tally = MarkTally;
+
+    ghost allowed = { λ m. allowed m.most };
+
+    ghost judged = { λ m. judged m.most };
+
+    fn allows(&self, n: u32) -> bool {
+        self.most < n && n <= MOST_PLANNED
+    }
+
+    fn verdict(&self, t: MarkTally) -> Verdict {
+        self.judge(t)
     }
 }

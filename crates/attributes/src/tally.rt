@@ -1,14 +1,15 @@
 // Tallies of marks: what is kept of the marks of a sample. A mark says whether a unit conforms.
-ghost use Rattle.std.specs.Prelude.{◌≡◌, [], ◌∷◌};
-ghost use Rattle.method.specs.Answers.{given};
-ghost use Rattle.method.specs.Meaning.{Made};
-ghost use Rattle.attributes.specs.Counts.{Sound, marked, none, noted, pooled};
+ghost use Rattle.attributes.specs.Counts.{Sound, kept, sound};
+ghost use Rattle.attributes.specs.Laws.{counts_laws};
+ghost use Rattle.attributes.specs.Tested.{sound_from, sound_to};
+ghost use Rattle.method.proofs.Tallies.{decides};
+ghost use Rattle.std.proofs.Common.{subst};
+ghost use Rattle.std.specs.Prelude.{◌≡◌, true, refl};
 
 use crate::counts::Counts;
 use fault::Fault;
-
-// The most marks that a tally holds.
-const MOST: u32 = 50;
+use inspection::tallying::Tallying;
+use method::MOST_PLANNED;
 
 // Numbers such as at most 50 marks may have.
 #[derive(Clone, Copy)]
@@ -17,50 +18,53 @@ pub struct MarkTally {
     ghost ok: { Sound counts },
 }
 
-impl MarkTally {
-    // The numbers of the marks that were entered.
-    pub fn counts(self) -> Counts
-        ensures { result ≡ self.counts }
-    {
+impl Tallying for MarkTally {
+    type Reading = bool;
+
+    type Numbers = Counts;
+
+    ghost kept = { kept };
+
+    ghost laws = { counts_laws };
+
+    ghost of = { λ t. t.counts };
+
+    ghost stands = { sound };
+
+    ghost decided = { λ x. decides (sound x) (λ e. (record { counts = x; ok = sound_from x e }, refl)) (λ p. subst (λ y. sound y ≡ true) p.1 (sound_to p.0.counts p.0.ok)) };
+
+    fn numbers(self) -> Counts {
         self.counts
     }
 
-    // The tally of no marks.
-    pub fn blank() -> MarkTally
-        ensures { result.counts ≡ none }
-    {
-        MarkTally {
-            counts: Counts { n: 0, z: 0 },
-        }
-    }
-
-    // The tally that gives the numbers, where some tally does.
-    pub fn made(x: Counts) -> Option<MarkTally>
-        ensures { Made (λ t. t.counts) x result }
-    {
-        if x.n > MOST || x.z > x.n {
+    fn made(x: Counts) -> Option<MarkTally> {
+        if x.n > MOST_PLANNED || x.z > x.n {
             None
         } else {
             Some(MarkTally { counts: x })
         }
     }
 
-    // The tally of one mark.
-    fn one(conforms: bool) -> MarkTally
-        ensures { result.counts ≡ marked (conforms ∷ []) }
-    {
-        let z = if conforms { 0 } else { 1 };
+    fn blank() -> MarkTally {
         MarkTally {
-            counts: Counts { n: 1, z },
+            counts: Counts { n: 0, z: 0 },
         }
     }
 
-    // Two tallies as one.
-    pub fn join(self, other: MarkTally) -> Result<MarkTally, Fault>
-        ensures { given (λ t. t.counts) result ≡ pooled self.counts other.counts }
-    {
+    fn takes(_conforms: bool) -> bool {
+        true
+    }
+
+    fn single(conforms: bool) -> Result<MarkTally, Fault> {
+        let z = if conforms { 0 } else { 1 };
+        Ok(MarkTally {
+            counts: Counts { n: 1, z },
+        })
+    }
+
+    fn join(self, other: MarkTally) -> Result<MarkTally, Fault> {
         let (x, y) = (self.counts, other.counts);
-        if x.n + y.n > MOST {
+        if x.n + y.n > MOST_PLANNED {
             return Err(Fault::TallyFull(0));
         }
         Ok(MarkTally {
@@ -71,10 +75,7 @@ impl MarkTally {
         })
     }
 
-    // The tally with one more mark.
-    pub fn enter(self, conforms: bool) -> Result<MarkTally, Fault>
-        ensures { given (λ t. t.counts) result ≡ noted self.counts conforms }
-    {
-        self.join(MarkTally::one(conforms))
+    fn count(self) -> u32 {
+        self.numbers().n
     }
 }

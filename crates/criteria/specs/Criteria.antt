@@ -1,7 +1,5 @@
 -- What the criteria share. In the formulas N, S and Q are the count, the sum and the sum of squares in x.
-use Rattle.std.specs.Prelude.{◌≡◌, Bool, true, ◌&&◌, ℤ, pos, ◌-ℤ◌, ◌*ℤ◌, int_le}
-use Rattle.method.specs.declared.verdict.Verdict.{Verdict}
-use Rattle.method.specs.Verdicts.{yes}
+use Rattle.std.specs.Prelude.{Bool, ◌&&◌, ℤ, pos, ◌-ℤ◌, ◌*ℤ◌, int_le}
 use Rattle.variables.specs.declared.sums.Sums.{Sums}
 
 -- S - N × C: how far the sum is above that of as many readings c
@@ -15,7 +13,3 @@ factor k = int_le (pos 0) k && int_le k (pos 4000)
 -- a deviation that a plan knows is 0 to 2,000
 abbrev pub deviation : ℤ → Bool
 deviation s = int_le (pos 0) s && int_le s (pos 2000)
-
--- the verdict is yes exactly when P holds
-abbrev pub Exactly : Verdict → Type 0 → Type 0
-Exactly v P = (yes v ≡ true → P) × (P → yes v ≡ true)

@@ -5,11 +5,11 @@ use Rattle.fault.specs.declared.Fault.{Fault}
 use Rattle.fault.specs.declared.Fault.TheVariants.{PlanConstant}
 use Rattle.method.specs.declared.verdict.Verdict.{Verdict}
 use Rattle.method.specs.Meaning.{Meaning}
-use Rattle.method.specs.Verdicts.{compared}
+use Rattle.method.specs.Verdicts.{Exactly, compared}
 use Rattle.variables.specs.declared.sums.Sums.{Sums}
 use Rattle.variables.specs.Sums.{reading}
 use Rattle.variables.specs.Methods.{variables}
-use Rattle.criteria.specs.Criteria.{above, deviation, factor, Exactly}
+use Rattle.criteria.specs.Criteria.{above, deviation, factor}
 
 -- K × σ × N
 abbrev pub scatter : ℤ → ℤ → Sums → ℤ

@@ -6,11 +6,11 @@ use Rattle.fault.specs.declared.Fault.TheVariants.{PlanConstant}
 use Rattle.method.specs.declared.verdict.Verdict.{Verdict}
 use Rattle.method.specs.declared.verdict.Verdict.TheVariants.{NotAccepted}
 use Rattle.method.specs.Meaning.{Meaning}
-use Rattle.method.specs.Verdicts.{compared}
+use Rattle.method.specs.Verdicts.{Exactly, compared}
 use Rattle.variables.specs.declared.sums.Sums.{Sums}
 use Rattle.variables.specs.Sums.{reading, spread}
 use Rattle.variables.specs.Methods.{variables}
-use Rattle.criteria.specs.Criteria.{above, factor, Exactly}
+use Rattle.criteria.specs.Criteria.{above, factor}
 
 -- K × K × N × D, where D = N × Q - S × S
 abbrev pub scatter : ℤ → Sums → ℤ

@@ -12,12 +12,12 @@ const GREATEST_DEVIATION: i32 = 2_000;
 pub(crate) fn is_factor(k: i32) -> bool
     ensures { result ≡ factor k }
 {
-    0 <= k && k <= GREATEST_FACTOR
+    (0..=GREATEST_FACTOR).contains(&k)
 }
 
 // Whether sigma is a deviation that a plan may know.
 pub(crate) fn is_deviation(sigma: i32) -> bool
     ensures { result ≡ deviation sigma }
 {
-    0 <= sigma && sigma <= GREATEST_DEVIATION
+    (0..=GREATEST_DEVIATION).contains(&sigma)
 }

@@ -26,11 +26,9 @@ impl Mean {
     pub fn new(n: i32, mean: i32) -> Result<Mean, Fault>
         ensures { given (λ m. (m.n, m.mean)) result ≡ newly n mean }
     {
-        if is_reading(mean) && FEWEST <= n && n <= MOST {
-            Ok(Mean {
-                n: n.unsigned_abs(),
-                mean,
-            })
+        if is_reading(mean) && (FEWEST..=MOST).contains(&n) {
+            let n = n.unsigned_abs();
+            Ok(Mean { n, mean })
         } else {
             Err(Fault::PlanConstant(0))
         }

@@ -11,13 +11,14 @@ const FRACTILES: [u32; 20] = [
     1_761, 1_753, 1_746, 1_740, 1_734, 1_729, 1_725,
 ];
 
-// The fractile for so many degrees of freedom, in thousandths; 0 where the table has none.
+// The fractile for so many degrees of freedom, in thousandths. It answers for any number, with 0 where the table has
+// none, so that it cannot fail: the mean asks within the table.
 pub fn fractile(degrees: u32) -> u32
     ensures value { result ≡ student degrees }
     ensures size { result ≤ 6314 }
     ensures falling { Falling students }
 {
-    if 1 <= degrees && degrees <= MOST {
+    if (1..=MOST).contains(&degrees) {
         FRACTILES[degrees as usize - 1]
     } else {
         0

@@ -22,6 +22,10 @@ words NotAccepted = codes "not accepted"
 abbrev pub compared : ℤ → ℤ → Verdict
 compared l r = cond (int_le l r) Accepted NotAccepted
 
+-- the verdict is yes exactly when P holds
+abbrev pub Exactly : Verdict → Type 0 → Type 0
+Exactly v P = (yes v ≡ true → P) × (P → yes v ≡ true)
+
 yes_cond : (b : Bool) → yes (cond b Accepted NotAccepted) ≡ b
 yes_cond true = refl
 yes_cond false = refl

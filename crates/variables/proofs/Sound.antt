@@ -1,11 +1,9 @@
 -- Joining and entering keep a tally's numbers sound.
-use Rattle.std.proofs.Common.{◌≡◌, ◌+◌, ◌*◌, ◌≤◌, true, ℤ, pos, ◌+ℤ◌, ◌-ℤ◌, neg_ℤ, nat_abs, ◌≤ℤ◌, mul-le-mul, arith}
-use lib.Signed.{le_z}
+use Rattle.std.proofs.Common.{◌+◌, ◌*◌, ◌≤◌, pos, ◌+ℤ◌, ◌-ℤ◌, nat_abs, ◌≤ℤ◌, arith}
 use borrow.Author.Differences.{ints}
-use Rattle.std.proofs.lemmas.Bool.{and_parts}
 use Rattle.integers.specs.Size.{square_size, size_sum, squares_join}
 use Rattle.variables.specs.declared.sums.Sums.{Sums}
-use Rattle.variables.specs.Sums.{Sound, alone, together, reading, spread}
+use Rattle.variables.specs.Sums.{Sound, together, spread}
 
 pub spread_in : (x : Sums) → nat_abs x.s * nat_abs x.s ≤ x.n * x.q → pos 0 ≤ℤ spread x
 spread_in x h = rw (square_size x.s) (omega (arith, ints))
@@ -18,12 +16,3 @@ sound_together x y f g h =
     let size = size_sum x.s y.s in
     let few : nat_abs (x.s +ℤ y.s) ≤ 2000 * (x.n + y.n) = omega (arith, f, g) in
     (h, few, omega (arith, f, g), spread_in (together x y) (squares_join x.n x.q (nat_abs x.s) y.n y.q (nat_abs y.s) (nat_abs (x.s +ℤ y.s)) (spread_out x f.3) (spread_out y g.3) size))
-
-pub sound_alone : (r : ℤ) → reading r ≡ true → Sound (alone r)
-sound_alone r h =
-    let p = and_parts (le_z (neg_ℤ (pos 2000)) r) (le_z r (pos 2000)) h in
-    let low = p.0 in
-    let high = p.1 in
-    let size : nat_abs r ≤ 2000 = omega (arith, ints) in
-    let square : nat_abs r * nat_abs r ≤ 2000 * 2000 = mul-le-mul size size in
-    (omega arith, size, square, spread_in (alone r) (omega arith))

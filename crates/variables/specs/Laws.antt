@@ -4,7 +4,6 @@ use Rattle.std.proofs.Common.{sym, ap, ◌∙◌, arith}
 use Rattle.std.proofs.Math.IntN.{+ℤ_assoc, +ℤ_comm, +ℤ_idl}
 use Rattle.variables.specs.declared.sums.Sums.{Sums}
 use Rattle.variables.specs.Sums.{none, alone, together, summed}
-use Rattle.variables.specs.Unknown.{unknown}
 use Rattle.variables.specs.Methods.{variables}
 use Rattle.method.specs.declared.verdict.Verdict.{Verdict}
 use Rattle.method.specs.Meaning.{Laws}
@@ -31,16 +30,6 @@ appended (x ∷ xs) ys = ap (together (alone x)) (appended xs ys) ∙ sym (assoc
 pub counted : (xs : List ℤ) → (summed xs).n ≡ length xs
 counted [] = refl
 counted (x ∷ xs) = omega (arith, counted xs)
-
-pub unknown_laws : (l k : ℤ) → Laws (unknown l k)
-unknown_laws l k = record {
-  appended = λ xs ys _ _. appended xs ys;
-  assoc = assoc;
-  comm = comm;
-  neutral = neutral;
-  counted = λ xs _. counted xs;
-  shared = λ x y. omega arith;
-}
 
 -- whatever a method on readings decides by
 pub variables_laws : (a : ℕ → Bool) (j : Sums → Verdict) → Laws (variables a j)

@@ -1,7 +1,6 @@
 -- The numbers of lists of readings, and which numbers are those of a tally.
-use Rattle.std.specs.Prelude.{◌+◌, ◌*◌, ◌≤◌, Bool, cond, ◌&&◌, List, [], ◌∷◌, ℤ, pos, ◌+ℤ◌, ◌-ℤ◌, ◌*ℤ◌, neg_ℤ, ◌≤ℤ◌, Ok, Err, Result, int_le, nat_le, unsigned_abs}
-use Rattle.fault.specs.declared.Fault.{Fault}
-use Rattle.fault.specs.declared.Fault.TheVariants.{ReadingNotTaken, TallyFull}
+use Rattle.std.specs.Prelude.{◌+◌, ◌*◌, ◌≤◌, Bool, ◌&&◌, List, [], ◌∷◌, ℤ, pos, ◌+ℤ◌, ◌-ℤ◌, ◌*ℤ◌, neg_ℤ, ◌≤ℤ◌, int_le, nat_le, unsigned_abs}
+use Rattle.inspection.specs.Tallied.{Tallied}
 use Rattle.variables.specs.declared.sums.Sums.{Sums}
 
 -- a reading is from -2,000 to 2,000
@@ -37,10 +36,11 @@ Sound x = (x.n ≤ 50) × (unsigned_abs x.s ≤ 2000 * x.n) × (x.q ≤ 4000000 
 abbrev pub sound : Sums → Bool
 sound x = nat_le x.n 50 && (nat_le (unsigned_abs x.s) (2000 * x.n) && (nat_le x.q (4000000 * x.n) && int_le (pos 0) (spread x)))
 
--- two tallies as one, refused past 50 readings
-abbrev pub pooled : Sums → Sums → Result Sums Fault
-pooled x y = cond (nat_le (x.n + y.n) 50) (Ok (together x y)) (Err (TallyFull 0))
-
--- a tally with one more reading, refused where the number is no reading
-abbrev pub noted : Sums → ℤ → Result Sums Fault
-noted x r = cond (reading r) (pooled x (summed (r ∷ []))) (Err (ReadingNotTaken 0))
+-- what is kept of lists of readings
+abbrev pub kept : Tallied ℤ Sums
+kept = record {
+  takes = reading;
+  total = summed;
+  join = together;
+  count = λ x. x.n;
+}

@@ -10,5 +10,5 @@ const HIGHEST: i32 = 2_000;
 pub fn is_reading(r: i32) -> bool
     ensures { result ≡ reading r }
 {
-    LOWEST <= r && r <= HIGHEST
+    (LOWEST..=HIGHEST).contains(&r)
 }

@@ -1,15 +1,17 @@
 // Tallies: what is kept of the readings of a sample.
-ghost use Rattle.std.specs.Prelude.{◌≡◌, ◌+◌, ◌≤◌, true, [], ◌∷◌};
-ghost use Rattle.method.specs.Answers.{given};
-ghost use Rattle.method.specs.Meaning.{Made};
-ghost use Rattle.variables.specs.Sums.{Sound, none, noted, pooled, reading, summed, together};
+ghost use Rattle.inspection.specs.Tallied.{lone, pooled};
+ghost use Rattle.method.proofs.Tallies.{decides};
+ghost use Rattle.std.proofs.Common.{subst};
+ghost use Rattle.std.specs.Prelude.{◌≡◌, ◌+◌, ◌≤◌, true, refl};
+ghost use Rattle.variables.specs.Laws.{variables_laws};
+ghost use Rattle.variables.specs.Sums.{Sound, kept, sound, together};
+ghost use Rattle.variables.specs.Tested.{sound_from, sound_to};
 
 use crate::reading::is_reading;
 use crate::sums::Sums;
 use fault::Fault;
-
-// The most readings that a tally holds.
-const MOST: u32 = 50;
+use inspection::tallying::Tallying;
+use method::MOST_PLANNED;
 
 // The greatest size of a reading.
 const SIZE: u64 = 2_000;
@@ -39,70 +41,69 @@ fn plus(x: Sums, y: Sums) -> Sums
     }
 }
 
-impl Tally {
-    // The numbers of the readings that were entered.
-    pub fn sums(self) -> Sums
-        ensures { result ≡ self.sums }
-    {
+impl Tallying for Tally {
+    type Reading = i32;
+
+    type Numbers = Sums;
+
+    ghost kept = { kept };
+
+    ghost laws = { variables_laws };
+
+    ghost of = { λ t. t.sums };
+
+    ghost stands = { sound };
+
+    ghost decided = { λ x. decides (sound x) (λ e. (record { sums = x; ok = sound_from x e }, refl)) (λ p. subst (λ y. sound y ≡ true) p.1 (sound_to p.0.sums p.0.ok)) };
+
+    fn numbers(self) -> Sums {
         self.sums
     }
 
-    // The tally of no readings.
-    pub fn blank() -> Tally
-        ensures { result.sums ≡ none }
-    {
-        Tally {
-            sums: Sums { n: 0, s: 0, q: 0 },
-        }
-    }
-
-    // The tally that gives the numbers, where some tally does.
-    pub fn made(x: Sums) -> Option<Tally>
-        ensures { Made (λ t. t.sums) x result }
-    {
+    fn made(x: Sums) -> Option<Tally> {
         let size = x.s.unsigned_abs();
         let n = x.n as u64;
-        if x.n > MOST || size > SIZE * n || x.q > SQUARE * n || n * x.q < size * size {
+        if x.n > MOST_PLANNED || size > SIZE * n || x.q > SQUARE * n || n * x.q < size * size {
             None
         } else {
             Some(Tally { sums: x })
         }
     }
 
-    // The tally of one reading.
-    fn one(r: i32) -> Tally
-        requires { reading r ≡ true }
-        ensures { result.sums ≡ summed (r ∷ []) }
-    {
-        let size = r.unsigned_abs() as u64;
+    fn blank() -> Tally {
         Tally {
+            sums: Sums { n: 0, s: 0, q: 0 },
+        }
+    }
+
+    fn takes(r: i32) -> bool {
+        is_reading(r)
+    }
+
+    fn single(r: i32) -> Result<Tally, Fault> {
+        if !is_reading(r) {
+            return Err(Fault::ReadingNotTaken(0));
+        }
+        let size = r.unsigned_abs() as u64;
+        Ok(Tally {
             sums: Sums {
                 n: 1,
                 s: r as i64,
                 q: size * size,
             },
-        }
+        })
     }
 
-    // Two tallies as one.
-    pub fn join(self, other: Tally) -> Result<Tally, Fault>
-        ensures { given (λ t. t.sums) result ≡ pooled self.sums other.sums }
-    {
+    #[tactic(auto, using(crate::proofs::Sound::sound_together))]
+    fn join(self, other: Tally) -> Result<Tally, Fault> {
         let (x, y) = (self.sums, other.sums);
-        if x.n + y.n > MOST {
+        if x.n + y.n > MOST_PLANNED {
             return Err(Fault::TallyFull(0));
         }
         Ok(Tally { sums: plus(x, y) })
     }
 
-    // The tally with one more reading.
-    pub fn enter(self, r: i32) -> Result<Tally, Fault>
-        ensures { given (λ t. t.sums) result ≡ noted self.sums r }
-    {
-        if is_reading(r) {
-            self.join(Tally::one(r))
-        } else {
-            Err(Fault::ReadingNotTaken(0))
-        }
+    fn count(self) -> u32 {
+        self.numbers().n
     }
 }

@@ -1,14 +1,12 @@
 // The criterion of the mean: its verdict.
 ghost use Rattle.std.specs.Prelude.{◌≡◌, ◌≤◌, pos, ◌*ℤ◌, unsigned_abs};
-ghost use Rattle.variables.specs.Sums.{Sound};
 ghost use Rattle.criteria.specs.Mean.{Tells, allowed, judged};
 
 use super::Mean;
 use crate::products::{above_limit, million_squares, spread_of, times};
 use crate::student::fractile;
+use inspection::criterion::Criterion;
 use method::verdict::Verdict;
-use variables::criterion::Criterion;
-use variables::sums::Sums;
 use variables::tally::Tally;
 
 // T × T × D
@@ -23,27 +21,21 @@ fn scatter(t: u32, d: i64) -> i64
 }
 
 impl Mean {
-    // What the numbers of the readings say of the lot.
-    fn weigh(self, x: Sums) -> Verdict
-        requires { Sound x }
-        ensures { result ≡ judged self.n self.mean x }
-    {
-        let m = above_limit(self.mean, x);
-        let d = spread_of(x);
-        let t = fractile(self.n - 1);
-        Verdict::at_most(million_squares(x.n, m), scatter(t, d))
-    }
-
     // What is said of the lot that the readings were taken from.
     pub fn judge(self, t: Tally) -> Verdict
         ensures value { result ≡ judged self.n self.mean t.sums }
         ensures exact { Tells result self.n self.mean t.sums }
     {
-        self.weigh(t.sums())
+        let m = above_limit(self.mean, t);
+        let d = spread_of(t);
+        let fractile = fractile(self.n - 1);
+        Verdict::at_most(million_squares(t, m), scatter(fractile, d))
     }
 }
 
 impl Criterion for Mean {
+    type Tally = Tally;
+
     ghost allowed = { λ m. allowed m.n };
 
     ghost judged = { λ m. judged m.n m.mean };

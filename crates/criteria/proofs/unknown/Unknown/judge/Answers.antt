@@ -1,13 +1,11 @@
 use Rattle.std.proofs.Common.{◌≡◌, sym, subst, rules}
-use Rattle.method.specs.declared.verdict.Verdict.{Verdict}
 use Rattle.criteria.specs.Unknown.{judged, Tells}
 use Rattle.criteria.proofs.Judged.{unknown_tells}
 use Rattle.criteria.proofs.unknown.Unknown.judge.Goals as goal
 
-pub returns : goal.returns
-returns c =
-    let l = c.args.self.limit in
-    let k = c.args.self.k in
+pub returns-clause-exact : goal.returns-clause-exact
+returns-clause-exact c =
+    let m = c.args.self in
     let x = c.args.t.sums in
-    let e : c.weigh.result ≡ judged l k x = search rules in
-    record { value = e; exact = subst (λ (v : Verdict). Tells v l k x) (sym e) (unknown_tells l k x) }
+    let e : c.at_most.result ≡ judged m.limit m.k x = search rules in
+    subst (λ v. Tells v m.limit m.k x) (sym e) (unknown_tells m.limit m.k x)
