@@ -8,7 +8,6 @@ use Rattle.method.specs.Meaning.{Meaning}
 use Rattle.method.specs.declared.verdict.Verdict.{Verdict}
 use Rattle.variables.specs.Sums.{sound, summed}
 use Rattle.criteria.proofs.Judged.{known_tells, mean_tells, unknown_tells}
-use Rattle.criteria.specs.Criteria.{Exactly}
 use Rattle.criteria.specs.Known.{known, constants as known_constants}
 use Rattle.criteria.specs.Unknown.{unknown, constants as unknown_constants}
 use Rattle.criteria.specs.Mean.{mean, constants as mean_constants}

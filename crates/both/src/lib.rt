@@ -40,10 +40,7 @@ impl<A: Method, B: Method<Reading = A::Reading>> Method for Both<A, B> {
     }
 
     fn tally(&self, x: (A::Numbers, B::Numbers)) -> Option<(A::Tally, B::Tally)> {
-        match (self.first.tally(x.0), self.second.tally(x.1)) {
-            (Some(t), Some(u)) => Some((t, u)),
-            _ => None,
-        }
+        Some((self.first.tally(x.0)?, self.second.tally(x.1)?))
     }
 
     fn blank(&self) -> (A::Tally, B::Tally) {

@@ -1,10 +1,9 @@
 -- The verdict under a plan with two limits is yes exactly when both limits are met.
 use Rattle.std.proofs.Common.{List, map, ℤ, neg_ℤ, sym, ◌∙◌}
 use Rattle.std.proofs.lemmas.Bool.{and_from, and_parts}
-use Rattle.method.specs.Verdicts.{yes, yes_lower}
+use Rattle.method.specs.Verdicts.{Exactly, yes, yes_lower}
 use Rattle.variables.specs.Sums.{summed}
 use Rattle.criteria.proofs.Judged.{unknown_tells}
-use Rattle.criteria.specs.Criteria.{Exactly}
 use Rattle.criteria.specs.Unknown.{judged}
 use Rattle.through.specs.Passings.{negated}
 use Rattle.plans.specs.Meets.{WindowMeets}

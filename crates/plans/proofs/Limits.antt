@@ -1,5 +1,5 @@
 -- A lower and an upper limit of readings.
-use Rattle.std.proofs.Common.{◌≡◌, ◌≤◌, Bool, true, false, ◌&&◌, ℤ, pos, ◌-ℤ◌, neg_ℤ, nat_abs, ◌≤ℤ◌, refl, arith, w32, SFits, to_z, of_z}
+use Rattle.std.proofs.Common.{◌≡◌, ◌≤◌, true, ℤ, pos, ◌-ℤ◌, neg_ℤ, nat_abs, ◌≤ℤ◌, arith, w32, to_z, of_z}
 use lib.Signed.{le_z}
 use borrow.Author.Differences.{ints}
 use Rattle.std.proofs.lemmas.Bool.{and_from, and_parts}
@@ -32,10 +32,7 @@ high_side u h = omega (arith, ints)
 pub turned : (u : ℤ) → reading u ≡ true → reading (neg_ℤ u) ≡ true
 turned u h = and_from (le_z (neg_ℤ (pos 2000)) (neg_ℤ u)) (le_z (neg_ℤ u) (pos 2000)) (le_to (neg_ℤ (pos 2000)) (neg_ℤ u) (low_side u (small u h))) (le_to (neg_ℤ u) (pos 2000) (high_side u (small u h)))
 
--- the sign of a reading is turned in 32 bits
-pub turned_fits : (u : ℤ) → nat_abs u ≤ 2000 → SFits w32 (pos 0 -ℤ to_z w32 (of_z w32 u))
-turned_fits u h = omega (arith, ints)
-
+-- the sign of a reading is turned in 32 bits, and comes back
 pub turned_back : (u : ℤ) → nat_abs u ≤ 2000 → to_z w32 (of_z w32 (pos 0 -ℤ to_z w32 (of_z w32 u))) ≡ neg_ℤ u
 turned_back u h = omega (arith, ints)
 
@@ -44,15 +41,6 @@ pub window_from : (l u k : ℤ) → reading u ≡ true → le_z l u ≡ true →
 window_from l u k r o h =
     let p = and_parts (reading l) (factor k) h in
     and_from (reading l) _ p.0 (and_from (reading u) _ r (and_from (le_z l u) (factor k) o p.1))
-
-pub window_not : (l u k : ℤ) → constants l k ≡ false → window_constants l u k ≡ false
-window_not l u k h = parts (reading l) (reading u) (le_z l u) (factor k) h
-  where
-    parts : (a b c d : Bool) → (a && d) ≡ false → (a && (b && (c && d))) ≡ false
-    parts true true true d h = h
-    parts true true false d h = refl
-    parts true false c d h = refl
-    parts false b c d h = refl
 
 pub upper_ok : (l u k : ℤ) → reading u ≡ true → constants l k ≡ true → constants (neg_ℤ u) k ≡ true
 upper_ok l u k r h = and_from (reading (neg_ℤ u)) (factor k) (turned u r) (and_parts (reading l) (factor k) h).1

@@ -28,11 +28,7 @@ pub as_refused : {T : Type 0} (b : Bool) (a : T) (f : Fault) → b ≡ false →
 as_refused true a f e h = let z : ◌≡◌ {A = ℕ} 0 1 = cc in absurd (omega arith)
 as_refused false a f e h = ap Err h
 
--- either part of a test fails it
-pub first_false : (a b : Bool) → a ≡ false → (a && b) ≡ false
-first_false true b e = let z : ◌≡◌ {A = ℕ} 0 1 = cc in absurd (omega arith)
-first_false false b e = refl
-
+-- the second part of a test fails it
 pub second_false : (a b : Bool) → b ≡ false → (a && b) ≡ false
 second_false true b e = e
 second_false false b e = refl

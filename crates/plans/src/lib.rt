@@ -18,28 +18,30 @@ use criteria::known::Known;
 use criteria::mean::Mean;
 use criteria::unknown::Unknown;
 use fault::Fault;
+use inspection::Inspection;
+use through::difference::Difference;
 use through::gauge::Gauge;
+use through::negation::Negation;
 use through::{Gauged, Paired, Reversed, Through};
-use variables::inspection::Variables;
 use variables::reading::is_reading;
 
 // A lower and an upper limit: the upper one is a lower limit of the readings with the sign turned.
-pub type Window = Both<Variables<Unknown>, Reversed<Variables<Unknown>>>;
+pub type Window = Both<Inspection<Unknown>, Reversed<Inspection<Unknown>>>;
 
 // Plan K: the deviation is known, and there is a lower limit.
-pub fn known(limit: i32, sigma: i32, k: i32) -> Result<Variables<Known>, Fault>
+pub fn known(limit: i32, sigma: i32, k: i32) -> Result<Inspection<Known>, Fault>
     ensures { given (λ m. known_method m.criterion.limit m.criterion.sigma m.criterion.k) result ≡ known_pile limit sigma k }
 {
     let criterion = Known::new(limit, sigma, k)?;
-    Ok(Variables { criterion })
+    Ok(Inspection { criterion })
 }
 
 // Plan U: the deviation is not known, and there is a lower limit.
-pub fn unknown(limit: i32, k: i32) -> Result<Variables<Unknown>, Fault>
+pub fn unknown(limit: i32, k: i32) -> Result<Inspection<Unknown>, Fault>
     ensures { given (λ m. unknown_method m.criterion.limit m.criterion.k) result ≡ unknown_pile limit k }
 {
     let criterion = Unknown::new(limit, k)?;
-    Ok(Variables { criterion })
+    Ok(Inspection { criterion })
 }
 
 // Plan W: the deviation is not known, and there are a lower and an upper limit.
@@ -50,42 +52,41 @@ pub fn window(lower: i32, upper: i32, k: i32) -> Result<Window, Fault>
         return Err(Fault::PlanConstant(0));
     }
     let first = unknown(lower, k)?;
-    let second = unknown(-upper, k)?;
-    Ok(Both {
-        first,
-        second: Through::reversed(second),
-    })
+    let second = Through::over(Negation, unknown(-upper, k)?);
+    Ok(Both { first, second })
 }
 
 // Plan A: at most so many marks of the sample may not conform.
-pub fn marks(most: i32) -> Result<Marks, Fault>
-    ensures { given (λ m. marks_method m.most) result ≡ marks_pile most }
+pub fn marks(most: i32) -> Result<Inspection<Marks>, Fault>
+    ensures { given (λ m. marks_method m.criterion.most) result ≡ marks_pile most }
 {
-    Marks::new(most)
+    let criterion = Marks::new(most)?;
+    Ok(Inspection { criterion })
 }
 
 // Plan G: at most so many readings may be outside two limits.
-pub fn gauged(low: i32, high: i32, most: i32) -> Result<Gauged<Marks>, Fault>
-    ensures { given (λ m. gauged_method m.passing.low m.passing.high (marks_method m.below.most)) result ≡ gauged_pile low high most }
+pub fn gauged(low: i32, high: i32, most: i32) -> Result<Gauged<Inspection<Marks>>, Fault>
+    ensures { given (λ m. gauged_method m.passing.low m.passing.high (marks_method m.below.criterion.most)) result ≡ gauged_pile low high most }
 {
     let gauge = Gauge::new(low, high)?;
-    Ok(Through::gauged(gauge, Marks::new(most)?))
+    let below = marks(most)?;
+    Ok(Through::over(gauge, below))
 }
 
 // Plan T: the mean of n readings.
-pub fn mean(n: i32, mean: i32) -> Result<Variables<Mean>, Fault>
+pub fn mean(n: i32, mean: i32) -> Result<Inspection<Mean>, Fault>
     ensures { given (λ m. mean_method m.criterion.n m.criterion.mean) result ≡ mean_pile n mean }
 {
     let criterion = Mean::new(n, mean)?;
-    Ok(Variables { criterion })
+    Ok(Inspection { criterion })
 }
 
 // Plan V: the mean of the differences of n pairs, which is held to 0.
-pub fn paired(n: i32) -> Result<Paired<Variables<Mean>>, Fault>
+pub fn paired(n: i32) -> Result<Paired<Inspection<Mean>>, Fault>
     ensures { given (λ m. paired_method (mean_method m.below.criterion.n m.below.criterion.mean)) result ≡ paired_pile n }
 {
-    let criterion = Mean::new(n, 0)?;
-    Ok(Through::paired(Variables { criterion }))
+    let below = mean(n, 0)?;
+    Ok(Through::over(Difference, below))
 }
 
 // The settled examples hold of the plans' definitions.

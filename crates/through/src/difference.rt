@@ -5,7 +5,7 @@ use crate::passing::Passing;
 use variables::reading::is_reading;
 
 // A pair of readings.
-#[derive(Clone, Copy)]
+#[derive(Clone, Copy, Debug, PartialEq, Eq)]
 pub struct Pair {
     pub first: i32,
     pub second: i32,
@@ -28,10 +28,6 @@ impl Passing for Difference {
             return None;
         }
         let difference = r.first - r.second;
-        if is_reading(difference) {
-            Some(difference)
-        } else {
-            None
-        }
+        is_reading(difference).then_some(difference)
     }
 }

@@ -38,10 +38,6 @@ impl Passing for Gauge {
     ghost passed = { λ g. conforms g.low g.high };
 
     fn pass(&self, r: i32) -> Option<bool> {
-        if is_reading(r) {
-            Some(self.low <= r && r <= self.high)
-        } else {
-            None
-        }
+        is_reading(r).then_some(self.low <= r && r <= self.high)
     }
 }

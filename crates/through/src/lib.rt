@@ -33,36 +33,11 @@ pub type Gauged<M> = Through<Gauge, M>;
 // Passes on the difference of each pair.
 pub type Paired<M> = Through<Difference, M>;
 
-impl<M: Method<Reading = i32>> Through<Negation, M> {
-    pub fn reversed(below: M) -> Reversed<M>
-        ensures { result.below ≡ below }
+impl<F: Passing, M: Method<Reading = F::Below>> Through<F, M> {
+    pub fn over(passing: F, below: M) -> Through<F, M>
+        ensures { (result.passing ≡ passing) × (result.below ≡ below) }
     {
-        Through {
-            passing: Negation,
-            below,
-        }
-    }
-}
-
-impl<M: Method<Reading = bool>> Through<Gauge, M> {
-    pub fn gauged(gauge: Gauge, below: M) -> Gauged<M>
-        ensures { (result.passing ≡ gauge) × (result.below ≡ below) }
-    {
-        Through {
-            passing: gauge,
-            below,
-        }
-    }
-}
-
-impl<M: Method<Reading = i32>> Through<Difference, M> {
-    pub fn paired(below: M) -> Paired<M>
-        ensures { result.below ≡ below }
-    {
-        Through {
-            passing: Difference,
-            below,
-        }
+        Through { passing, below }
     }
 }
 
@@ -96,10 +71,8 @@ impl<F: Passing, M: Method<Reading = F::Below>> Method for Through<F, M> {
     }
 
     fn enter(&self, t: M::Tally, r: F::Above) -> Result<M::Tally, Fault> {
-        match self.passing.pass(r) {
-            Some(passed) => self.below.enter(t, passed),
-            None => Err(Fault::ReadingNotTaken(0)),
-        }
+        let passed = self.passing.pass(r).ok_or(Fault::ReadingNotTaken(0))?;
+        self.below.enter(t, passed)
     }
 
     fn join(&self, t: M::Tally, u: M::Tally) -> Result<M::Tally, Fault> {
@@ -107,10 +80,8 @@ impl<F: Passing, M: Method<Reading = F::Below>> Method for Through<F, M> {
     }
 
     fn takes(&self, r: F::Above) -> bool {
-        match self.passing.pass(r) {
-            Some(passed) => self.below.takes(passed),
-            None => false,
-        }
+        let passed = self.passing.pass(r);
+        passed.is_some_and(|x| self.below.takes(x))
     }
 
     fn allows(&self, n: u32) -> bool {

@@ -18,6 +18,6 @@ impl Passing for Negation {
     ghost passed = { λ _. negated };
 
     fn pass(&self, r: i32) -> Option<i32> {
-        if is_reading(r) { Some(-r) } else { None }
+        is_reading(r).then(|| -r)
     }
 }
