@@ -7,7 +7,8 @@ use crate::page::Page;
 use fault::Fault;
 use method::Method;
 
-const MOST_PAGES: usize = 64;
+// The most pages of a row.
+pub const MOST_PAGES: usize = 64;
 
 // Whether no named page follows a blank one.
 fn orderly<N>(pages: &[Page<N>]) -> bool
@@ -25,13 +26,12 @@ fn orderly<N>(pages: &[Page<N>]) -> bool
 }
 
 // Whether no name stands twice.
+#[tactic(auto, using(std::proofs::lemmas::Grind::common_steps, crate::proofs::Steps::place_length))]
 fn apart<N>(pages: &[Page<N>]) -> bool
     ensures { result ≡ once pages.now }
 {
-    for i in 0..pages.len() {
-        let name = pages[i].name;
-        let rest = &pages[i + 1..];
-        if name != 0 && place(rest, name) < rest.len() {
+    for (i, p) in pages.iter().enumerate() {
+        if p.name != 0 && place(&pages[i + 1..], p.name).is_some() {
             return false;
         }
     }
@@ -45,17 +45,11 @@ fn room<M: Method>(method: &M, n: u32, pages: &[Page<M::Numbers>]) -> Option<u32
 {
     let mut left = n;
     for p in pages {
-        let Some(t) = method.tally(p.numbers) else {
-            return None;
-        };
-        let count = method.count(t);
-        if count > left {
-            return None;
-        }
+        let count = method.count(method.tally(p.numbers)?);
         if p.name == 0 && count > 0 {
             return None;
         }
-        left -= count;
+        left = left.checked_sub(count)?;
     }
     Some(left)
 }
@@ -64,14 +58,11 @@ fn room<M: Method>(method: &M, n: u32, pages: &[Page<M::Numbers>]) -> Option<u32
 pub fn check<M: Method>(method: &M, n: u32, pages: &[Page<M::Numbers>]) -> Result<u32, Fault>
     ensures { result ≡ checked (M.Method.meaning method.now) M.Method.stands n pages.now }
 {
-    if pages.len() < 1 || pages.len() > MOST_PAGES {
+    if !(1..=MOST_PAGES).contains(&pages.len()) {
         return Err(Fault::RowSize(0));
     }
     if !orderly(pages) || !apart(pages) {
         return Err(Fault::RowInconsistent(0));
     }
-    match room(method, n, pages) {
-        Some(left) => Ok(left),
-        None => Err(Fault::RowInconsistent(0)),
-    }
+    room(method, n, pages).ok_or(Fault::RowInconsistent(0))
 }

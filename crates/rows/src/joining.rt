@@ -13,13 +13,8 @@ pub fn total<M: Method>(method: &M, pages: &[Page<M::Numbers>]) -> Result<M::Tal
 {
     let mut sum = method.blank();
     for p in pages {
-        let Some(t) = method.tally(p.numbers) else {
-            return Err(Fault::RowInconsistent(0));
-        };
-        match method.join(sum, t) {
-            Ok(both) => sum = both,
-            Err(fault) => return Err(fault),
-        }
+        let t = method.tally(p.numbers).ok_or(Fault::RowInconsistent(0))?;
+        sum = method.join(sum, t)?;
     }
     Ok(sum)
 }

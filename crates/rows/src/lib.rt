@@ -7,7 +7,7 @@ mod finding;
 mod joining;
 mod page;
 
-pub use checking::check;
+pub use checking::{MOST_PAGES, check};
 pub use edits::{blank_all, put, take_out};
 pub use finding::place;
 pub use joining::total;

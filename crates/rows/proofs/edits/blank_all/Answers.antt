@@ -1,13 +1,11 @@
-use Rattle.std.proofs.Common.{◌≡◌, ◌++◌, length, set, replicate, ap, ◌∙◌, arith}
-use Rattle.std.proofs.lemmas.List.{drop_all, append-nil}
-use Rattle.rows.proofs.Steps.{blank_more}
+use Rattle.std.proofs.Common.{◌≡◌, List, [], ◌∷◌, length, replicate, refl, ap, ◌∙◌, rules}
+use Rattle.std.specs.List.{FoldsTo}
 use Rattle.rows.proofs.edits.blank_all.Goals as goal
 
-pub loop-p-preserved : goal.loop-p-preserved
-loop-p-preserved g c = ap (λ t. set t c.loop-p.p-index c.args.blank) c.loop-p.invariant ∙ blank_more c.args.pages.now c.loop-p.p-index c.args.blank (omega arith)
+-- what a call that answers v each time folds to
+all_same : {P A : Type 0} (R : P → A → P → Type 0) (J : P → Type 0) (v : A) → ((p : P) (x : A) (q : P) → J p → R p x q → (x ≡ v) × J q) → (p : P) (xs : List A) (q : P) → J p → FoldsTo R p xs q → xs ≡ replicate (length xs) v
+all_same R J v same p [] q j f = refl
+all_same R J v same p (x ∷ xs) q j f = ap (λ y. y ∷ xs) (same p x f.0 j f.1).0 ∙ ap (λ ys. v ∷ ys) (all_same R J v same f.0 xs q (same p x f.0 j f.1).1 f.2)
 
 pub returns : goal.returns
-returns g c =
-    let n : c.loop-p.p-index ≡ length c.args.pages.now = omega arith in
-    let b = c.args.blank in
-    c.loop-p.invariant ∙ ap (λ t. replicate c.loop-p.p-index b ++ t) (drop_all c.loop-p.p-index c.args.pages.now c.loop-p-test.false) ∙ append-nil (replicate c.loop-p.p-index b) ∙ ap (λ t. replicate t b) n
+returns g c = all_same _ (λ p. p.0.now ≡ c.args.blank) c.args.blank (λ p x q j r. (search rules, search rules)) _ c.fill_with.new.self c.fill_with.ensures.ran.0 (search rules) c.fill_with.ensures.ran.1 ∙ ap (λ n. replicate n c.args.blank) c.fill_with.ensures.len
