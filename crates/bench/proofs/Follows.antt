@@ -1,12 +1,12 @@
 -- Each call on pages that show lines answers as the ledger does, and leaves pages that show the ledger's next lines.
-use Rattle.std.proofs.Common.{◌≡◌, ℕ, zero, suc, ◌+◌, ◌-◌, ◌<◌, ◌≤◌, Bool, true, false, cond, ◌&&◌, eqb, ltb, leb, List, [], ◌∷◌, ◌++◌, length, set, replicate, Ok, Err, Result, sym, refl, ap, ◌∙◌, subst, ⊎_elim, arith}
+use Rattle.std.proofs.Common.{◌≡◌, ℕ, zero, suc, ◌+◌, ◌-◌, ◌<◌, ◌≤◌, Bool, true, false, cond, ◌&&◌, eqb, ltb, leb, List, [], ◌∷◌, ◌++◌, length, set, Ok, Err, Result, sym, refl, ap, ◌∙◌, subst, ⊎_elim, arith}
 use Rattle.std.specs.List.{AllByRecursion}
 use Rattle.std.proofs.lemmas.List.{length-append, length-set, append-nil, append_assoc}
 use Rattle.std.proofs.ByRecursion.{All-push, All-append}
-use Rattle.std.proofs.lemmas.Bool.{cond-true, cond-false, eq-eqb, ne_eqb, eqb-false, le-leb, leb-true, ltb-true, ltb-false, and_parts, cases_Bool}
+use Rattle.std.proofs.lemmas.Bool.{cond-true, cond-false, eq-eqb, ne_eqb, eqb-false, le-leb, ltb-true, ltb-false, and_parts, cases_Bool}
 use Rattle.fault.specs.Located.{then}
 use Rattle.fault.specs.declared.Fault.{Fault}
-use Rattle.fault.specs.declared.Fault.TheVariants.{PlanFull, PlannedNumber, ReadingNotTaken, ReadingsMissing, RowInconsistent, RowSize, TallyFull}
+use Rattle.fault.specs.declared.Fault.TheVariants.{PlanFull, ReadingNotTaken, ReadingsMissing, RowInconsistent, TallyFull}
 use Rattle.method.specs.Meaning.{Meaning, Laws, Taken}
 use Rattle.method.specs.Answers.{entered, joined}
 use Rattle.rows.specs.declared.page.Page.{Page}
@@ -14,8 +14,8 @@ use Rattle.rows.specs.Pages as rows
 use Rattle.rows.specs.Checks.{checked}
 use Rattle.rows.specs.Joining.{sum_of}
 use Rattle.rows.specs.Pages.{page}
-use Rattle.bench.specs.Calls.{admitted, after, at, blank_page, closed, named, opened, poured, read, struck, struck_at, told}
-use Rattle.bench.specs.Ledger.{Line, line, is_open, standing, readings_of, add, remove, row, Shows, Sound, Holds, opening, reading, striking, pouring}
+use Rattle.bench.specs.Calls.{after, at, blank_page, closed, judged, named, opened, poured, read, struck, struck_at, told}
+use Rattle.bench.specs.Ledger.{CarriedOut, Follows, Line, judging, line, is_open, standing, readings_of, add, remove, row, Shows, Sound, Holds, opening, reading, striking, pouring}
 use Rattle.bench.proofs.Shows.{named_not_0, length_row, found, place_blank, checked_row}
 use Rattle.bench.proofs.Edits.{apart_push, standing_push, open_add, apart_add, names_add, standing_add, readings_add, apart_remove, all_remove, standing_remove, length_remove, length_add, taken_add, taken_of, numbers_of, place_add, shown_add, shown_remove, shown_push}
 
@@ -25,19 +25,19 @@ and_then r f = then f r
 
 module _ {R X : Type 0} (m : Meaning R X) (st : X → Bool) (laws : Laws m) (n : ℕ) (top : n ≤ 50) where
   -- a ledger's answer and the pages' answer
-  abbrev pub Agrees : Result (List (Line R)) Fault → Result (List (Page X)) Fault → Type 0
+  abbrev Agrees : Result (List (Line R)) Fault → Result (List (Page X)) Fault → Type 0
   Agrees (Ok ls) (Ok ps) = Shows m n ls ps
   Agrees (Ok ls) (Err f) = ⊥
   Agrees (Err e) (Ok ps) = ⊥
   Agrees (Err e) (Err f) = f ≡ e
 
-  pub agrees_told : (a : Result (List (Line R)) Fault) (b : Result (List (Page X)) Fault) → Agrees a b → told b ≡ told a
+  agrees_told : (a : Result (List (Line R)) Fault) (b : Result (List (Page X)) Fault) → Agrees a b → told b ≡ told a
   agrees_told (Ok ls) (Ok ps) h = refl
   agrees_told (Ok ls) (Err f) h = absurd h
   agrees_told (Err e) (Ok ps) h = absurd h
   agrees_told (Err e) (Err f) h = ap Err h
 
-  pub agrees_after : (a : Result (List (Line R)) Fault) (b : Result (List (Page X)) Fault) (ls : List (Line R)) (ps : List (Page X)) → Shows m n ls ps → Agrees a b → Shows m n (after a ls) (after b ps)
+  agrees_after : (a : Result (List (Line R)) Fault) (b : Result (List (Page X)) Fault) (ls : List (Line R)) (ps : List (Page X)) → Shows m n ls ps → Agrees a b → Shows m n (after a ls) (after b ps)
   agrees_after (Ok ls') (Ok ps') ls ps h g = g
   agrees_after (Ok ls') (Err f) ls ps h g = absurd g
   agrees_after (Err e) (Ok ps') ls ps h g = absurd g
@@ -66,7 +66,7 @@ module _ {R X : Type 0} (m : Meaning R X) (st : X → Bool) (laws : Laws m) (n :
     first_blank : rows.place 0 ps ≡ length ls
     first_blank = ap (rows.place 0) h.shown ∙ place_blank m ls h.blanks h.names
 
-    pub open_agrees : (x : ℕ) → Agrees (opening m n (length ps) x ls) (opened m st n x ps)
+    open_agrees : (x : ℕ) → Agrees (opening m n (length ps) x ls) (opened m st n x ps)
     open_agrees x = past (opening m n (length ps) x ls) _
         (both (named x) _ _ _ _
         (λ ok. same (is_open x ls) (ltb (rows.place x ps) (length ps)) _ _ _ _ (stands_at x ok) (λ _. refl)
@@ -162,7 +162,7 @@ module _ {R X : Type 0} (m : Meaning R X) (st : X → Bool) (laws : Laws m) (n :
       entry : Agrees (cond (m.takes r) (Ledger (ltb (length (standing ls)) n)) (Err (ReadingNotTaken 0))) (cond (m.takes r) (Pages (eqb (n - length (standing ls)) 0) tried) (Err (ReadingNotTaken 0)))
       entry = both (m.takes r) _ _ _ _ tail (λ _. refl)
 
-    pub read_agrees : (x : ℕ) (r : R) → Agrees (reading m n (length ps) x r ls) (read m st n x r ps)
+    read_agrees : (x : ℕ) (r : R) → Agrees (reading m n (length ps) x r ls) (read m st n x r ps)
     read_agrees x r = past (reading m n (length ps) x r ls) _
         (both (named x) _ _ _ _
         (λ ok. same (is_open x ls) (ltb (rows.place x ps) (length ps)) _ _ _ _ (stands_at x ok) (λ op. entry x r op) (λ _. refl))
@@ -183,7 +183,7 @@ module _ {R X : Type 0} (m : Meaning R X) (st : X → Bool) (laws : Laws m) (n :
           few = let s = standing_remove x ls in let t = h.few in omega arith;
         }
 
-    pub strike_agrees : (x : ℕ) → Agrees (striking m n (length ps) x ls) (struck m st n x ps)
+    strike_agrees : (x : ℕ) → Agrees (striking m n (length ps) x ls) (struck m st n x ps)
     strike_agrees x = past (striking m n (length ps) x ls) _
         (both (named x) _ _ _ _
         (λ ok. same (is_open x ls) (ltb (rows.place x ps) (length ps)) _ _ _ _ (stands_at x ok) (λ op. held_remove x op) (λ _. refl))
@@ -219,7 +219,7 @@ module _ {R X : Type 0} (m : Meaning R X) (st : X → Bool) (laws : Laws m) (n :
         ap (λ w. m.count (m.join w (at m ps (rows.place s ps)))) (numbers_at g og) ∙ ap (λ w. m.count (m.join (m.total rg) w)) (numbers_at s os)
         ∙ ap m.count (sym (laws.appended rg rs tg ts)) ∙ laws.counted (rg ++ rs) (All-append (λ r. m.takes r ≡ true) rg rs tg ts) ∙ let a = length-append rg rs in omega arith
 
-    pub pour_agrees : (s g : ℕ) → Agrees (pouring m n (length ps) s g ls) (poured m st n s g ps)
+    pour_agrees : (s g : ℕ) → Agrees (pouring m n (length ps) s g ls) (poured m st n s g ps)
     pour_agrees s g = past (pouring m n (length ps) s g ls) _
         (both (named s && named g) _ _ _ _
         (λ ok. let p = and_parts (named s) (named g) ok in
@@ -261,30 +261,37 @@ module _ {R X : Type 0} (m : Meaning R X) (st : X → Bool) (laws : Laws m) (n :
         (λ e. let l : n ≤ length (standing ls) = ltb-false (length (standing ls)) n e in cond-true (eqb (n - length (standing ls)) 0) (Ok (m.total (standing ls))) (Err ReadingsMissing) (eq-eqb (n - length (standing ls)) 0 (omega arith)) ∙ sym (cond-false (ltb (length (standing ls)) n) (Err ReadingsMissing) (Ok (m.total (standing ls))) e))
         (cases_Bool (ltb (length (standing ls)) n))
 
-  pub none_held : (ps : List (Page X)) → ps ≡ replicate (length ps) (blank_page m) → 1 ≤ length ps → length ps ≤ 64 → Sound st ps → Holds m st n [] ps
-  none_held ps e lo hi o = record { shows = record { blanks = length ps; shown = e; some = lo; most = hi; names = tt; apart = tt; taken = tt; few = omega arith }; sound = o }
+  followed : (f : List (Line R) → Result (List (Line R)) Fault) (F : List (Page X) → Result (List (Page X)) Fault) (ps qs : List (Page X)) (r : Result (Unit {0}) Fault) → ((ls : List (Line R)) → Shows m n ls ps → Sound st ps → Agrees (f ls) (F ps)) → CarriedOut st F ps qs r → Follows m st n f ps qs r
+  followed f F ps qs r agrees c ls h =
+      let g = agrees ls h.shows h.sound in
+      (c.answer ∙ agrees_told (f ls) (F ps) g, record { shows = subst (λ t. Shows m n (after (f ls) ls) t) (sym c.row) (agrees_after (f ls) (F ps) ls ps h.shows g); sound = c.sound h.sound })
 
-  pub followed : (ls : List (Line R)) (ps qs : List (Page X)) (r : Result (Unit {0}) Fault) (a : Result (List (Line R)) Fault) (b : Result (List (Page X)) Fault) → Holds m st n ls ps → Agrees a b → r ≡ told b → qs ≡ after b ps → (Sound st ps → Sound st qs) → (r ≡ told a) × Holds m st n (after a ls) qs
-  followed ls ps qs r a b h g e f k = (e ∙ agrees_told a b g, record { shows = subst (λ t. Shows m n (after a ls) t) (sym f) (agrees_after a b ls ps h.shows g); sound = k h.sound })
+  module _ (ps qs : List (Page X)) (r : Result (Unit {0}) Fault) where
+    pub open_follows : (x : ℕ) → CarriedOut st (opened m st n x) ps qs r → Follows m st n (opening m n (length ps) x) ps qs r
+    open_follows x = followed (opening m n (length ps) x) (opened m st n x) ps qs r (λ ls h o. open_agrees ls ps h o x)
+
+    pub read_follows : (x : ℕ) (y : R) → CarriedOut st (read m st n x y) ps qs r → Follows m st n (reading m n (length ps) x y) ps qs r
+    read_follows x y = followed (reading m n (length ps) x y) (read m st n x y) ps qs r (λ ls h o. read_agrees ls ps h o x y)
+
+    pub strike_follows : (x : ℕ) → CarriedOut st (struck m st n x) ps qs r → Follows m st n (striking m n (length ps) x) ps qs r
+    strike_follows x = followed (striking m n (length ps) x) (struck m st n x) ps qs r (λ ls h o. strike_agrees ls ps h o x)
+
+    pub pour_follows : (s g : ℕ) → CarriedOut st (poured m st n s g) ps qs r → Follows m st n (pouring m n (length ps) s g) ps qs r
+    pour_follows s g = followed (pouring m n (length ps) s g) (poured m st n s g) ps qs r (λ ls h o. pour_agrees ls ps h o s g)
+
+  -- on pages that show lines the lot is judged as the ledger says
+  pub judge_agrees : (ls : List (Line R)) (ps : List (Page X)) → Holds m st n ls ps → judged m st n ps ≡ judging m n ls
+  judge_agrees ls ps h =
+      ap (then (λ x. Ok (m.verdict x))) (close_agrees ls ps h.shows h.sound)
+      ∙ elim (ltb (length (standing ls)) n) as (λ b. then (λ x. Ok (m.verdict x)) (cond b (Err ReadingsMissing) (Ok (m.total (standing ls)))) ≡ cond b (Err ReadingsMissing) (Ok (m.verdict (m.total (standing ls)))))
+      [ true ↦ refl | false ↦ refl ]
 
 pub closed_ok : {X : Type 0} (b : Bool) (z w : X) → cond b (Err ReadingsMissing) (Ok z) ≡ Ok w → (b ≡ false) × (w ≡ z)
-closed_ok true z w h = let e : ◌≡◌ {A = ℕ} 0 1 = cc in absurd (omega arith)
-closed_ok false z w h = (refl, cc)
+closed_ok b z w h = (grind arith, grind arith)
 
 pub closed_err : {X : Type 0} (b : Bool) (z : X) (f : Fault) → cond b (Err ReadingsMissing) (Ok z) ≡ Err f → (b ≡ true) × (f ≡ ReadingsMissing)
-closed_err true z f h = (refl, cc)
-closed_err false z f h = let e : ◌≡◌ {A = ℕ} 0 1 = cc in absurd (omega arith)
+closed_err b z f h = (grind arith, grind arith)
 
 pub closing_keeps : {A : Type 0} (b : Bool) (ls : A) → after (cond b (Err ReadingsMissing) (Ok ls)) ls ≡ ls
 closing_keeps true ls = refl
 closing_keeps false ls = refl
-
-admitted_parts : (b t : Bool) → ◌≡◌ {A = Result (Unit {0}) Fault} (cond b (cond t (Ok tt) (Err (RowSize 0))) (Err (PlannedNumber 0))) (Ok tt) → t ≡ true
-admitted_parts true true h = refl
-admitted_parts true false h = let e : ◌≡◌ {A = ℕ} 0 1 = cc in absurd (omega arith)
-admitted_parts false t h = let e : ◌≡◌ {A = ℕ} 0 1 = cc in absurd (omega arith)
-
-pub admitted_pages : {R X : Type 0} (m : Meaning R X) (n size : ℕ) → admitted m n size ≡ Ok tt → (1 ≤ size) × (size ≤ 64)
-admitted_pages m n size h =
-    let t = and_parts (leb 1 size) (leb size 64) (admitted_parts (leb 1 n && (leb n 50 && m.allows n)) (leb 1 size && leb size 64) h) in
-    (leb-true 1 size t.0, leb-true size 64 t.1)

@@ -1,5 +1,5 @@
 -- Pages written from tallies stay so.
-use Rattle.std.proofs.Common.{◌≡◌, ℕ, zero, suc, ◌+◌, Bool, true, false, cond, ltb, List, [], ◌∷◌, ◌++◌, length, take, drop, set, replicate, sym, subst}
+use Rattle.std.proofs.Common.{◌≡◌, ℕ, ◌+◌, Bool, true, false, cond, ltb, List, [], ◌∷◌, ◌++◌, length, take, drop, set, sym, subst}
 use Rattle.rows.specs.Pages.{moved_up, taken_out}
 use Rattle.std.proofs.ByRecursion.{All-set, All-append, All-take, All-drop}
 use Rattle.rows.specs.declared.page.Page.{Page}
@@ -20,10 +20,3 @@ module _ {X : Type 0} (st : X → Bool) where
       either : (b : Bool) → Sound st (cond b (moved_up i p ps) ps)
       either true = moved
       either false = s
-
-  same_all : (n : ℕ) (p : Page X) → st p.numbers ≡ true → Sound st (replicate n p)
-  same_all zero p h = tt
-  same_all (suc n) p h = (h, same_all n p h)
-
-  pub sound_blanks : (qs : List (Page X)) (n : ℕ) (p : Page X) → qs ≡ replicate n p → st p.numbers ≡ true → Sound st qs
-  sound_blanks qs n p e h = subst (Sound st) (sym e) (same_all n p h)

@@ -5,6 +5,7 @@ use Rattle.fault.specs.declared.Fault.{Fault}
 use Rattle.fault.specs.declared.Fault.TheVariants.{NameNotOpen, NameOpen, NameRange, PlanFull, PlannedNumber, PouredOntoItself, PouredPastPlan, ReadingNotTaken, ReadingsMissing, RowFull, RowSize}
 use Rattle.method.specs.Answers.{entered}
 use Rattle.method.specs.Meaning.{Meaning}
+use Rattle.method.specs.declared.verdict.Verdict.{Verdict}
 use Rattle.rows.specs.Checks.{checked}
 use Rattle.rows.specs.Joining.{sum_of}
 use Rattle.rows.specs.Pages.{moved_up, page, place}
@@ -70,6 +71,10 @@ module _ {R X : Type 0} (m : Meaning R X) (st : X → Bool) (n : ℕ) where
   -- all tallies joined, where no reading is missing
   abbrev pub closed : List (Page X) → Result X Fault
   closed ps = then (λ left. cond (left == 0) (sum_of m st (m.total []) ps) (Err ReadingsMissing)) (checked m st n ps)
+
+  -- what is said of the lot, where closing gives one
+  abbrev pub judged : List (Page X) → Result Verdict Fault
+  judged ps = then (λ x. Ok (m.verdict x)) (closed ps)
 
 -- what a call is answered, and what there is after it: a refused one changes nothing
 abbrev pub told : {A E : Type 0} → Result A E → Result (Unit {0}) E

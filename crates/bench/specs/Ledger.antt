@@ -4,6 +4,7 @@ use Rattle.std.specs.List.{AllByRecursion}
 use Rattle.fault.specs.declared.Fault.{Fault}
 use Rattle.fault.specs.declared.Fault.TheVariants.{NameNotOpen, NameOpen, NameRange, PlanFull, PouredOntoItself, PouredPastPlan, ReadingNotTaken, ReadingsMissing, RowFull}
 use Rattle.method.specs.Meaning.{Meaning, Taken}
+use Rattle.method.specs.declared.verdict.Verdict.{Verdict}
 use Rattle.rows.specs.Pages.{page}
 use Rattle.rows.specs.declared.page.Page.{Page}
 use Rattle.bench.specs.Calls.{after, blank_page, named, told}
@@ -65,6 +66,10 @@ module _ {R X : Type 0} (m : Meaning R X) (n pages : ℕ) where
   abbrev pub closing : List (Line R) → Result (List (Line R)) Fault
   closing ls = cond (nat_lt (length (standing ls)) n) (Err ReadingsMissing) (Ok ls)
 
+-- what is said of the lot, where the planned number of readings stands
+abbrev pub judging : {R X : Type 0} → Meaning R X → ℕ → List (Line R) → Result Verdict Fault
+judging m n ls = cond (nat_lt (length (standing ls)) n) (Err ReadingsMissing) (Ok (m.verdict (m.total (standing ls))))
+
 -- no two lines have one name
 abbrev pub Apart : {R : Type 0} → List (Line R) → Type 0
 Apart [] = Unit {0}
@@ -81,6 +86,13 @@ row m ls k = map (page_of m) ls ++ replicate k (blank_page m)
 -- some tally gives each page's numbers
 abbrev pub Sound : {X : Type 0} → (X → Bool) → List (Page X) → Type 0
 Sound st ps = AllByRecursion (λ p. st p.numbers ≡ true) ps
+
+-- a call that comes to f was carried out on the pages ps: r is its answer, qs are the pages afterwards, and where some
+-- tally gave each page's numbers, one still does
+pub record CarriedOut {X : Type 0} (st : X → Bool) (f : List (Page X) → Result (List (Page X)) Fault) (ps qs : List (Page X)) (r : Result (Unit {0}) Fault) : Type 0 where
+  pub answer : r ≡ told (f ps)
+  pub row : qs ≡ after (f ps) ps
+  pub sound : Sound st ps → Sound st qs
 
 -- 1 to 64 pages that picture lines which a bench's past can leave: names in range and apart, readings that the method
 -- takes, and at most n of them

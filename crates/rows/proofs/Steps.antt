@@ -5,7 +5,7 @@ use Rattle.std.proofs.lemmas.Bool.Decides.{nat_tests}
 use Rattle.method.specs.Meaning.{Meaning}
 use Rattle.rows.specs.declared.page.Page.{Page}
 use Rattle.rows.specs.Checks.{checked, fits, room}
-use Rattle.rows.specs.Pages.{place}
+use Rattle.rows.specs.Pages.{found, place}
 
 -- what is left of a list begins with the element that was read
 pub front : {X : Type 0} (xs : List X) (i : ℕ) (x : X) → i < length xs → x ≡ get_or xs i x → drop i xs ≡ x ∷ drop (i + 1) xs
@@ -15,14 +15,21 @@ pub place_length : {X : Type 0} (x : ℕ) (ps : List (Page X)) → place x ps �
 place_length x [] = omega arith
 place_length x (p ∷ ps) = let ih = place_length x ps in elim (eqb p.name x) as (λ b. cond b 0 (suc (place x ps)) ≤ suc (length ps)) [ true ↦ omega arith | false ↦ omega arith ]
 
+-- where a name was found
+pub found_at : {X : Type 0} (x : ℕ) (ps : List (Page X)) (i : ℕ) → found x ps ≡ Some i → (place x ps ≡ i) × (i < length ps)
+found_at x ps i h = (grind (arith, nat_tests), grind (arith, nat_tests))
+
 pub fits_yes : {R X : Type 0} (m : Meaning R X) (st : X → Bool) (p : Page X) (k : ℕ) → st p.numbers ≡ true → (p.name ≡ 0 → ⊥) ⊎ (m.count p.numbers ≡ 0) → m.count p.numbers ≤ k → fits m st p k ≡ true
 fits_yes m st p k s o l = grind (arith, nat_tests)
 
--- what a granted check tells
-pub checked_room : {R X : Type 0} (m : Meaning R X) (st : X → Bool) (n k : ℕ) (ps : List (Page X)) → checked m st n ps ≡ Ok k → room m st n ps ≡ Some k
-checked_room m st n k ps h = grind (arith, nat_tests)
-
-pub room_stands : {R X : Type 0} (m : Meaning R X) (st : X → Bool) (k j : ℕ) (ps : List (Page X)) → room m st k ps ≡ Some j → (i : ℕ) (d : Page X) → i < length ps → st (get_or ps i d).numbers ≡ true
+room_stands : {R X : Type 0} (m : Meaning R X) (st : X → Bool) (k j : ℕ) (ps : List (Page X)) → room m st k ps ≡ Some j → (i : ℕ) (d : Page X) → i < length ps → st (get_or ps i d).numbers ≡ true
 room_stands m st k j [] h i d lt = absurd (omega arith)
 room_stands m st k j (p ∷ ps) h zero d lt = grind (arith, nat_tests)
 room_stands m st k j (p ∷ ps) h (suc i) d lt = let later = λ (r : room m st (k - m.count p.numbers) ps ≡ Some j). room_stands m st (k - m.count p.numbers) j ps r i d (omega arith) in grind (arith, nat_tests, later)
+
+checked_room : {R X : Type 0} (m : Meaning R X) (st : X → Bool) (n k : ℕ) (ps : List (Page X)) → checked m st n ps ≡ Ok k → room m st n ps ≡ Some k
+checked_room m st n k ps h = grind (arith, nat_tests)
+
+-- where the check is passed some tally gives each page's numbers
+pub checked_stands : {R X : Type 0} (m : Meaning R X) (st : X → Bool) (n k : ℕ) (ps : List (Page X)) → checked m st n ps ≡ Ok k → (i : ℕ) (d : Page X) → i < length ps → st (get_or ps i d).numbers ≡ true
+checked_stands m st n k ps h = room_stands m st n k ps (checked_room m st n k ps h)

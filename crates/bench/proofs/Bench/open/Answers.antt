@@ -1,18 +1,5 @@
-use Rattle.std.proofs.Common.{length}
-use Rattle.bench.specs.Calls as rows
-use Rattle.bench.specs.Ledger as ledger
-use Rattle.bench.proofs.Follows.{followed, open_agrees}
+use Rattle.bench.proofs.Follows.{open_follows}
 use Rattle.bench.proofs.Bench.open.Goals as goal
 
-pub returns : goal.returns
-returns g c =
-    let b = c.args.self.now in
-    let m = g.M.Method.meaning b.method in
-    let l = g.M.Method.laws b.method in
-    let st = g.M.Method.stands in
-    let ps = c.args.pages.now in
-    record {
-      answer = c.open_page.ensures.answer;
-      row = c.open_page.ensures.row;
-      ledger = λ ls h. followed m st l b.n b.high ls ps c.open_page.new.pages c.open_page.result (ledger.opening m b.n (length ps) c.args.name ls) (rows.opened m st b.n c.args.name ps) h (open_agrees m st l b.n b.high ls ps h.shows h.sound c.args.name) c.open_page.ensures.answer c.open_page.ensures.row c.open_page.ensures.sound;
-    }
+pub returns-clause-ledger : goal.returns-clause-ledger
+returns-clause-ledger g c = let b = c.args.self.now in open_follows (g.M.Method.meaning b.method) g.M.Method.stands (g.M.Method.laws b.method) b.n b.high c.args.pages.now _ _ c.args.name c.open_page.ensures

@@ -6,5 +6,5 @@ pub returns : goal.returns
 returns g c = record {
   answer = search rules;
   row = search rules;
-  sound = sound_out g.M.Method.stands c.args.pages.now c.take_out.new.pages c.place-i.result c.blank-blank.result c.take_out.ensures c.blank-blank.ensures.sound;
+  sound = sound_out g.M.Method.stands c.args.pages.now c.take_out.new.pages c.in_ok-i.i c.blank.result c.take_out.ensures c.blank.ensures.sound;
 }
