@@ -1,14 +1,16 @@
 -- Each call on pages that show lines answers as the ledger does, and leaves pages that show the ledger's next lines.
-use Rattle.std.proofs.Common.{◌≡◌, ℕ, zero, suc, ◌+◌, ◌-◌, ◌<◌, ◌≤◌, Bool, true, false, cond, ◌&&◌, eqb, ltb, leb, List, [], ◌∷◌, ◌++◌, length, set, Ok, Err, Result, sym, refl, ap, ◌∙◌, subst, ⊎_elim, arith}
+use Rattle.std.proofs.Common.{◌≡◌, ℕ, zero, suc, ◌+◌, ◌-◌, ◌<◌, ◌≤◌, Bool, true, false, cond, ◌&&◌, eqb, ltb, leb, List, [], ◌∷◌, ◌++◌, length, set, Ok, Err, Result, sym, refl, ap, ◌∙◌, subst, arith}
 use Rattle.std.specs.List.{AllByRecursion}
-use Rattle.std.proofs.lemmas.List.{length-append, length-set, append-nil, append_assoc}
+use Rattle.std.proofs.lemmas.List.{length-set, append-nil}
 use Rattle.std.proofs.ByRecursion.{All-push, All-append}
-use Rattle.std.proofs.lemmas.Bool.{cond-true, cond-false, eq-eqb, ne_eqb, eqb-false, le-leb, ltb-true, ltb-false, and_parts, cases_Bool}
+use Rattle.std.proofs.lemmas.Grind.{common_steps}
+use Rattle.std.proofs.lemmas.Bool.Decides.{nat_tests}
+use Rattle.std.proofs.lemmas.Bool.{eqb-false, ltb-true, and_parts}
 use Rattle.fault.specs.Located.{then}
 use Rattle.fault.specs.declared.Fault.{Fault}
-use Rattle.fault.specs.declared.Fault.TheVariants.{PlanFull, ReadingNotTaken, ReadingsMissing, RowInconsistent, TallyFull}
+use Rattle.fault.specs.declared.Fault.TheVariants.{PlanFull, ReadingNotTaken, ReadingsMissing}
 use Rattle.method.specs.Meaning.{Meaning, Laws, Taken}
-use Rattle.method.specs.Answers.{entered, joined}
+use Rattle.method.specs.Answers.{entered}
 use Rattle.rows.specs.declared.page.Page.{Page}
 use Rattle.rows.specs.Pages as rows
 use Rattle.rows.specs.Checks.{checked}
@@ -58,13 +60,13 @@ module _ {R X : Type 0} (m : Meaning R X) (st : X → Bool) (laws : Laws m) (n :
     past A F g = subst (λ u. Agrees A (and_then u F)) (sym (checked_row m st laws n ls ps top h o)) g
 
     size : length ps ≡ length ls + h.blanks
-    size = ap length h.shown ∙ length_row m ls h.blanks
+    size = grind (arith, h.shown, length_row m ls h.blanks)
 
     stands_at : (x : ℕ) → named x ≡ true → ltb (rows.place x ps) (length ps) ≡ is_open x ls
-    stands_at x ok = ap (λ t. ltb (rows.place x t) (length t)) h.shown ∙ found m x ls h.blanks (named_not_0 x ok)
+    stands_at x ok = grind (arith, h.shown, found m x ls h.blanks (named_not_0 x ok))
 
     first_blank : rows.place 0 ps ≡ length ls
-    first_blank = ap (rows.place 0) h.shown ∙ place_blank m ls h.blanks h.names
+    first_blank = grind (arith, h.shown, place_blank m ls h.blanks h.names)
 
     open_agrees : (x : ℕ) → Agrees (opening m n (length ps) x ls) (opened m st n x ps)
     open_agrees x = past (opening m n (length ps) x ls) _
@@ -79,15 +81,16 @@ module _ {R X : Type 0} (m : Meaning R X) (st : X → Bool) (laws : Laws m) (n :
         granted ok new free =
             let k = h.blanks in
             let e : k ≡ suc (k - 1) = let s = size in omega arith in
+            let l = length-set ps (rows.place 0 ps) (page x (m.total [])) in
             record {
               blanks = k - 1;
               shown = ap (λ t. set t (rows.place 0 ps) (page x (m.total []))) h.shown ∙ ap (λ t. set (row m ls k) t (page x (m.total []))) first_blank ∙ ap (λ t. set (row m ls t) (length ls) (page x (m.total []))) e ∙ shown_push m x ls (k - 1);
-              some = let l = length-set ps (rows.place 0 ps) (page x (m.total [])) in let s = h.some in omega arith;
-              most = let l = length-set ps (rows.place 0 ps) (page x (m.total [])) in let s = h.most in omega arith;
+              some = grind (arith, l, h.some);
+              most = grind (arith, l, h.most);
               names = All-push (λ l. named l.name ≡ true) ls (line x []) h.names ok;
               apart = apart_push x ls new h.apart;
               taken = All-push (λ l. Taken m l.readings) ls (line x []) h.taken tt;
-              few = let l = ap length (standing_push x ls) in let s = h.few in omega arith;
+              few = grind (arith, standing_push x ls, h.few);
             }
 
     -- the page of an open name with more readings shows the line with them
@@ -98,7 +101,7 @@ module _ {R X : Type 0} (m : Meaning R X) (st : X → Bool) (laws : Laws m) (n :
         ∙ shown_add m laws x rs ls h.blanks op t h.taken
 
     numbers_at : (x : ℕ) → is_open x ls ≡ true → at m ps (rows.place x ps) ≡ m.total (readings_of x ls)
-    numbers_at x op = ap (λ p. at m p (rows.place x p)) h.shown ∙ numbers_of m x ls h.blanks (blank_page m) op
+    numbers_at x op = grind (arith, h.shown, numbers_of m x ls h.blanks (blank_page m) op)
 
     held_add : (x : ℕ) (rs : List R) → is_open x ls ≡ true → Taken m rs → length (standing ls) + length rs ≤ n → Shows m n (add x rs ls) (set ps (rows.place x ps) (page x (m.join (at m ps (rows.place x ps)) (m.total rs))))
     held_add x rs op t fit =
@@ -106,12 +109,12 @@ module _ {R X : Type 0} (m : Meaning R X) (st : X → Bool) (laws : Laws m) (n :
         record {
           blanks = h.blanks;
           shown = added x rs op t;
-          some = let s = h.some in omega arith;
-          most = let s = h.most in omega arith;
+          some = grind (arith, l, h.some);
+          most = grind (arith, l, h.most);
           names = names_add (λ y. named y ≡ true) x rs ls h.names;
           apart = apart_add x rs ls h.apart;
           taken = taken_add m x rs ls t h.taken;
-          few = let s = standing_add x rs ls op in omega arith;
+          few = grind (arith, standing_add x rs ls op);
         }
 
     module _ (x : ℕ) (r : R) (op : is_open x ls ≡ true) where
@@ -126,18 +129,10 @@ module _ {R X : Type 0} (m : Meaning R X) (st : X → Bool) (laws : Laws m) (n :
       tried = then (λ w. Ok (set ps (rows.place x ps) (page x w))) (entered m (at m ps (rows.place x ps)) r)
 
       counts : m.takes r ≡ true → m.count z ≤ length (standing ls) + 1
-      counts t =
-          let a = laws.shared (at m ps (rows.place x ps)) (m.total (r ∷ [])) in
-          let b : m.count (m.total (r ∷ [])) ≡ 1 = laws.counted (r ∷ []) (t, tt) in
-          let c : m.count (at m ps (rows.place x ps)) ≡ length (readings_of x ls) = ap m.count (numbers_at x op) ∙ laws.counted (readings_of x ls) (taken_of m x ls h.taken) in
-          let s = standing_remove x ls in
-          omega arith
+      counts t = grind (arith, common_steps, laws.shared (at m ps (rows.place x ps)) (m.total (r ∷ [])), laws.counted (r ∷ []) (t, tt), numbers_at x op, laws.counted (readings_of x ls) (taken_of m x ls h.taken), standing_remove x ls, h.few)
 
       free : m.takes r ≡ true → length (standing ls) < n → tried ≡ written
-      free t l =
-          let c = counts t in
-          ap (then (λ w. Ok (set ps (rows.place x ps) (page x w))))
-          (cond-true (m.takes r) (joined m (at m ps (rows.place x ps)) (m.total (r ∷ []))) (Err (ReadingNotTaken 0)) t ∙ cond-true (leb (m.count z) 50) (Ok z) (Err (TallyFull 0)) (le-leb (m.count z) 50 (omega arith)))
+      free t l = grind (arith, nat_tests, counts t)
 
       abbrev Ledger : Bool → Result (List (Line R)) Fault
       Ledger b = cond b (Ok (add x (r ∷ []) ls)) (Err (PlanFull 0))
@@ -147,17 +142,10 @@ module _ {R X : Type 0} (m : Meaning R X) (st : X → Bool) (laws : Laws m) (n :
 
       tail : m.takes r ≡ true → Agrees (Ledger (ltb (length (standing ls)) n)) (Pages (eqb (n - length (standing ls)) 0) tried)
       tail t =
-          ⊎_elim
-          (λ e.
-          let l : length (standing ls) < n = ltb-true (length (standing ls)) n e in
-          let f : eqb (n - length (standing ls)) 0 ≡ false = ne_eqb (n - length (standing ls)) 0 (omega arith) in
-          subst (λ u. Agrees (Ledger u) (Pages (eqb (n - length (standing ls)) 0) tried)) (sym e)
-          (subst (λ u. Agrees (Ledger true) (Pages u tried)) (sym f) (subst (λ u. Agrees (Ledger true) u) (sym (free t l)) (held_add x (r ∷ []) op (t, tt) (omega arith)))))
-          (λ e.
-          let l : n ≤ length (standing ls) = ltb-false (length (standing ls)) n e in
-          let f : eqb (n - length (standing ls)) 0 ≡ true = eq-eqb (n - length (standing ls)) 0 (omega arith) in
-          subst (λ u. Agrees (Ledger u) (Pages (eqb (n - length (standing ls)) 0) tried)) (sym e) (subst (λ u. Agrees (Ledger false) (Pages u tried)) (sym f) refl))
-          (cases_Bool (ltb (length (standing ls)) n))
+          let k = length (standing ls) in
+          let turned : Pages (eqb (n - k) 0) tried ≡ cond (ltb k n) tried (Err (PlanFull 0)) = grind (arith, nat_tests) in
+          subst (Agrees (Ledger (ltb k n))) (sym turned)
+          (both (ltb k n) _ _ _ _ (λ lt. let l = ltb-true k n lt in subst (Agrees (Ledger true)) (sym (free t l)) (held_add x (r ∷ []) op (t, tt) (omega arith))) (λ _. refl))
 
       entry : Agrees (cond (m.takes r) (Ledger (ltb (length (standing ls)) n)) (Err (ReadingNotTaken 0))) (cond (m.takes r) (Pages (eqb (n - length (standing ls)) 0) tried) (Err (ReadingNotTaken 0)))
       entry = both (m.takes r) _ _ _ _ tail (λ _. refl)
@@ -171,16 +159,16 @@ module _ {R X : Type 0} (m : Meaning R X) (st : X → Bool) (laws : Laws m) (n :
     held_remove : (x : ℕ) → is_open x ls ≡ true → Shows m n (remove x ls) (struck_at m (rows.place x ps) ps)
     held_remove x op =
         let e : struck_at m (rows.place x ps) ps ≡ row m (remove x ls) (h.blanks + 1) = ap (λ p. struck_at m (rows.place x p) p) h.shown ∙ shown_remove m x ls h.blanks op in
-        let l : length (struck_at m (rows.place x ps) ps) ≡ length ps = let a = ap length e in let b = length_row m (remove x ls) (h.blanks + 1) in let c = length_remove x ls op in let d = size in omega arith in
+        let l : length (struck_at m (rows.place x ps) ps) ≡ length ps = grind (arith, e, length_row m (remove x ls) (h.blanks + 1), length_remove x ls op, size) in
         record {
           blanks = h.blanks + 1;
           shown = e;
-          some = let s = h.some in omega arith;
-          most = let s = h.most in omega arith;
+          some = grind (arith, l, h.some);
+          most = grind (arith, l, h.most);
           names = all_remove (λ y. named y.name ≡ true) x ls h.names;
           apart = apart_remove x ls h.apart;
           taken = all_remove (λ y. Taken m y.readings) x ls h.taken;
-          few = let s = standing_remove x ls in let t = h.few in omega arith;
+          few = grind (arith, standing_remove x ls, h.few);
         }
 
     strike_agrees : (x : ℕ) → Agrees (striking m n (length ps) x ls) (struck m st n x ps)
@@ -195,19 +183,20 @@ module _ {R X : Type 0} (m : Meaning R X) (st : X → Bool) (laws : Laws m) (n :
         let k = h.blanks in
         let ls' = add g rs ls in
         let os' : is_open s ls' ≡ true = open_add s g rs ls ∙ os in
-        let step : set ps (rows.place g ps) (page g (m.join (at m ps (rows.place g ps)) (at m ps (rows.place s ps)))) ≡ row m ls' k = ap (λ w. set ps (rows.place g ps) (page g (m.join (at m ps (rows.place g ps)) w))) (numbers_at s os) ∙ added g rs og (taken_of m s ls h.taken) in
+        let rows' = set ps (rows.place g ps) (page g (m.join (at m ps (rows.place g ps)) (at m ps (rows.place s ps)))) in
+        let step : rows' ≡ row m ls' k = ap (λ w. set ps (rows.place g ps) (page g (m.join (at m ps (rows.place g ps)) w))) (numbers_at s os) ∙ added g rs og (taken_of m s ls h.taken) in
         let where-s : rows.place s ps ≡ rows.place s (row m ls' k) = ap (rows.place s) h.shown ∙ sym (place_add m s g rs ls k) in
-        let e : struck_at m (rows.place s ps) (set ps (rows.place g ps) (page g (m.join (at m ps (rows.place g ps)) (at m ps (rows.place s ps))))) ≡ row m (remove s ls') (k + 1) = ap (λ p. struck_at m (rows.place s ps) p) step ∙ ap (λ i. struck_at m i (row m ls' k)) where-s ∙ shown_remove m s ls' k os' in
-        let l : length (struck_at m (rows.place s ps) (set ps (rows.place g ps) (page g (m.join (at m ps (rows.place g ps)) (at m ps (rows.place s ps)))))) ≡ length ps = let a = ap length e in let b = length_row m (remove s ls') (k + 1) in let c = length_remove s ls' os' in let f = length_add g rs ls in let d = size in omega arith in
+        let e : struck_at m (rows.place s ps) rows' ≡ row m (remove s ls') (k + 1) = ap (struck_at m (rows.place s ps)) step ∙ ap (λ i. struck_at m i (row m ls' k)) where-s ∙ shown_remove m s ls' k os' in
+        let l : length (struck_at m (rows.place s ps) rows') ≡ length ps = grind (arith, e, length_row m (remove s ls') (k + 1), length_remove s ls' os', length_add g rs ls, size) in
         record {
           blanks = k + 1;
           shown = e;
-          some = let z = h.some in omega arith;
-          most = let z = h.most in omega arith;
+          some = grind (arith, l, h.some);
+          most = grind (arith, l, h.most);
           names = all_remove (λ y. named y.name ≡ true) s ls' (names_add (λ y. named y ≡ true) g rs ls h.names);
           apart = apart_remove s ls' (apart_add g rs ls h.apart);
           taken = all_remove (λ y. Taken m y.readings) s ls' (taken_add m g rs ls (taken_of m s ls h.taken) h.taken);
-          few = let a = standing_remove s ls' in let b = standing_add g rs ls og in let c = ap length (readings_add s g rs ls ne) in let t = h.few in omega arith;
+          few = grind (arith, standing_remove s ls', standing_add g rs ls og, readings_add s g rs ls ne, h.few);
         }
 
     pour_count : (s g : ℕ) → is_open s ls ≡ true → is_open g ls ≡ true → m.count (m.join (at m ps (rows.place g ps)) (at m ps (rows.place s ps))) ≡ length (readings_of s ls) + length (readings_of g ls)
@@ -216,8 +205,7 @@ module _ {R X : Type 0} (m : Meaning R X) (st : X → Bool) (laws : Laws m) (n :
         let rg = readings_of g ls in
         let ts = taken_of m s ls h.taken in
         let tg = taken_of m g ls h.taken in
-        ap (λ w. m.count (m.join w (at m ps (rows.place s ps)))) (numbers_at g og) ∙ ap (λ w. m.count (m.join (m.total rg) w)) (numbers_at s os)
-        ∙ ap m.count (sym (laws.appended rg rs tg ts)) ∙ laws.counted (rg ++ rs) (All-append (λ r. m.takes r ≡ true) rg rs tg ts) ∙ let a = length-append rg rs in omega arith
+        grind (arith, common_steps, numbers_at g og, numbers_at s os, laws.appended rg rs tg ts, laws.counted (rg ++ rs) (All-append (λ r. m.takes r ≡ true) rg rs tg ts))
 
     pour_agrees : (s g : ℕ) → Agrees (pouring m n (length ps) s g ls) (poured m st n s g ps)
     pour_agrees s g = past (pouring m n (length ps) s g ls) _
@@ -234,32 +222,17 @@ module _ {R X : Type 0} (m : Meaning R X) (st : X → Bool) (laws : Laws m) (n :
     -- the pages' tallies joined are the total of the readings that stand
     sum_row : (acc : List R) (qs : List (Line R)) (k : ℕ) → Taken m acc → AllByRecursion (λ l. Taken m l.readings) qs → length acc + length (standing qs) ≤ 50 → Sound st (row m qs k) → sum_of m st (m.total acc) (row m qs k) ≡ Ok (m.total (acc ++ standing qs))
     sum_row acc [] zero ta tq fit w = ap (λ t. Ok (m.total t)) (sym (append-nil acc))
-    sum_row acc [] (suc k) ta tq fit w =
-        let e : m.join (m.total acc) (m.total []) ≡ m.total acc = laws.comm (m.total acc) (m.total []) ∙ laws.neutral (m.total acc) in
-        let c : m.count (m.join (m.total acc) (m.total [])) ≡ length acc = ap m.count e ∙ laws.counted acc ta in
-        cond-true (st (m.total [])) (and_then (joined m (m.total acc) (m.total [])) (λ y. sum_of m st y (row m [] k))) (Err (RowInconsistent 0)) w.0
-        ∙ ap (λ u. and_then u (λ y. sum_of m st y (row m [] k))) (cond-true (leb (m.count (m.join (m.total acc) (m.total []))) 50) (Ok (m.join (m.total acc) (m.total []))) (Err (TallyFull 0)) (le-leb (m.count (m.join (m.total acc) (m.total []))) 50 (omega arith)))
-        ∙ ap (λ u. sum_of m st u (row m [] k)) e ∙ sum_row acc [] k ta tq fit w.1
+    sum_row acc [] (suc k) ta tq fit w = grind (arith, nat_tests, laws.comm (m.total acc) (m.total []), laws.neutral (m.total acc), laws.counted acc ta, w.0, sum_row acc [] k ta tq fit w.1)
     sum_row acc (l ∷ qs) k ta tq fit w =
-        let rs = l.readings in
-        let a = length-append rs (standing qs) in
-        let b = length-append acc rs in
-        let ta' = All-append (λ r. m.takes r ≡ true) acc rs ta tq.0 in
-        let e : m.join (m.total acc) (m.total rs) ≡ m.total (acc ++ rs) = sym (laws.appended acc rs ta tq.0) in
-        let c : m.count (m.join (m.total acc) (m.total rs)) ≡ length (acc ++ rs) = ap m.count e ∙ laws.counted (acc ++ rs) ta' in
-        cond-true (st (m.total rs)) (and_then (joined m (m.total acc) (m.total rs)) (λ y. sum_of m st y (row m qs k))) (Err (RowInconsistent 0)) w.0
-        ∙ ap (λ u. and_then u (λ y. sum_of m st y (row m qs k))) (cond-true (leb (m.count (m.join (m.total acc) (m.total rs))) 50) (Ok (m.join (m.total acc) (m.total rs))) (Err (TallyFull 0)) (le-leb (m.count (m.join (m.total acc) (m.total rs))) 50 (omega arith)))
-        ∙ ap (λ u. sum_of m st u (row m qs k)) e ∙ sum_row (acc ++ rs) qs k ta' tq.1 (omega arith) w.1 ∙ ap (λ t. Ok (m.total t)) (append_assoc acc rs (standing qs))
+        let ta' = All-append (λ r. m.takes r ≡ true) acc l.readings ta tq.0 in
+        let ih = sum_row (acc ++ l.readings) qs k ta' tq.1 in
+        grind (arith, nat_tests, common_steps, laws.appended acc l.readings ta tq.0, laws.counted (acc ++ l.readings) ta', w.0, w.1, ih)
 
     -- closing is granted exactly when n readings stand, and the lot's total is theirs
     pub close_agrees : closed m st n ps ≡ cond (ltb (length (standing ls)) n) (Err ReadingsMissing) (Ok (m.total (standing ls)))
     close_agrees =
-        ap (λ u. and_then u (λ left. cond (eqb left 0) (sum_of m st (m.total []) ps) (Err ReadingsMissing))) (checked_row m st laws n ls ps top h o)
-        ∙ ap (λ u. cond (eqb (n - length (standing ls)) 0) u (Err ReadingsMissing)) (ap (sum_of m st (m.total [])) h.shown ∙ sum_row [] ls h.blanks tt h.taken (let f = h.few in omega arith) (subst (Sound st) h.shown o))
-        ∙ ⊎_elim
-        (λ e. let l : length (standing ls) < n = ltb-true (length (standing ls)) n e in cond-false (eqb (n - length (standing ls)) 0) (Ok (m.total (standing ls))) (Err ReadingsMissing) (ne_eqb (n - length (standing ls)) 0 (omega arith)) ∙ sym (cond-true (ltb (length (standing ls)) n) (Err ReadingsMissing) (Ok (m.total (standing ls))) e))
-        (λ e. let l : n ≤ length (standing ls) = ltb-false (length (standing ls)) n e in cond-true (eqb (n - length (standing ls)) 0) (Ok (m.total (standing ls))) (Err ReadingsMissing) (eq-eqb (n - length (standing ls)) 0 (omega arith)) ∙ sym (cond-false (ltb (length (standing ls)) n) (Err ReadingsMissing) (Ok (m.total (standing ls))) e))
-        (cases_Bool (ltb (length (standing ls)) n))
+        let sum = sum_row [] ls h.blanks tt h.taken (let f = h.few in omega arith) (subst (Sound st) h.shown o) in
+        grind (arith, nat_tests, checked_row m st laws n ls ps top h o, h.shown, sum)
 
   followed : (f : List (Line R) → Result (List (Line R)) Fault) (F : List (Page X) → Result (List (Page X)) Fault) (ps qs : List (Page X)) (r : Result (Unit {0}) Fault) → ((ls : List (Line R)) → Shows m n ls ps → Sound st ps → Agrees (f ls) (F ps)) → CarriedOut st F ps qs r → Follows m st n f ps qs r
   followed f F ps qs r agrees c ls h =
@@ -285,12 +258,6 @@ module _ {R X : Type 0} (m : Meaning R X) (st : X → Bool) (laws : Laws m) (n :
       ap (then (λ x. Ok (m.verdict x))) (close_agrees ls ps h.shows h.sound)
       ∙ elim (ltb (length (standing ls)) n) as (λ b. then (λ x. Ok (m.verdict x)) (cond b (Err ReadingsMissing) (Ok (m.total (standing ls)))) ≡ cond b (Err ReadingsMissing) (Ok (m.verdict (m.total (standing ls)))))
       [ true ↦ refl | false ↦ refl ]
-
-pub closed_ok : {X : Type 0} (b : Bool) (z w : X) → cond b (Err ReadingsMissing) (Ok z) ≡ Ok w → (b ≡ false) × (w ≡ z)
-closed_ok b z w h = (grind arith, grind arith)
-
-pub closed_err : {X : Type 0} (b : Bool) (z : X) (f : Fault) → cond b (Err ReadingsMissing) (Ok z) ≡ Err f → (b ≡ true) × (f ≡ ReadingsMissing)
-closed_err b z f h = (grind arith, grind arith)
 
 pub closing_keeps : {A : Type 0} (b : Bool) (ls : A) → after (cond b (Err ReadingsMissing) (Ok ls)) ls ≡ ls
 closing_keeps true ls = refl

@@ -95,7 +95,10 @@ impl<M: Method> Bench<M> {
         if left == 0 {
             return Err(Fault::PlanFull(0));
         }
-        let t = self.method.tally(pages[i].numbers).ok_or(Fault::RowInconsistent(0))?;
+        let t = self
+            .method
+            .tally(pages[i].numbers)
+            .ok_or(Fault::RowInconsistent(0))?;
         let t = self.method.enter(t, reading)?;
         let numbers = self.method.numbers(t);
         put(pages, i, Page { name, numbers });

@@ -1,10 +1,10 @@
 -- One page more of what is left of a row.
-use Rattle.std.proofs.Common.{◌≡◌, ℕ, zero, suc, ◌+◌, ◌-◌, ◌<◌, ◌≤◌, Bool, true, false, cond, eqb, ◌⊎◌, List, [], ◌∷◌, length, get_or, drop, Some, Ok, sym, ap, ◌∙◌, arith}
+use Rattle.std.proofs.Common.{◌≡◌, ℕ, zero, suc, ◌+◌, ◌-◌, ◌<◌, ◌≤◌, Bool, true, false, cond, eqb, List, [], ◌∷◌, length, get_or, drop, Some, Ok, sym, ap, ◌∙◌, arith}
 use Rattle.std.proofs.lemmas.List.{drop_more}
 use Rattle.std.proofs.lemmas.Bool.Decides.{nat_tests}
 use Rattle.method.specs.Meaning.{Meaning}
 use Rattle.rows.specs.declared.page.Page.{Page}
-use Rattle.rows.specs.Checks.{checked, fits, room}
+use Rattle.rows.specs.Checks.{checked, room}
 use Rattle.rows.specs.Pages.{found, place}
 
 -- what is left of a list begins with the element that was read
@@ -18,9 +18,6 @@ place_length x (p ∷ ps) = let ih = place_length x ps in elim (eqb p.name x) as
 -- where a name was found
 pub found_at : {X : Type 0} (x : ℕ) (ps : List (Page X)) (i : ℕ) → found x ps ≡ Some i → (place x ps ≡ i) × (i < length ps)
 found_at x ps i h = (grind (arith, nat_tests), grind (arith, nat_tests))
-
-pub fits_yes : {R X : Type 0} (m : Meaning R X) (st : X → Bool) (p : Page X) (k : ℕ) → st p.numbers ≡ true → (p.name ≡ 0 → ⊥) ⊎ (m.count p.numbers ≡ 0) → m.count p.numbers ≤ k → fits m st p k ≡ true
-fits_yes m st p k s o l = grind (arith, nat_tests)
 
 room_stands : {R X : Type 0} (m : Meaning R X) (st : X → Bool) (k j : ℕ) (ps : List (Page X)) → room m st k ps ≡ Some j → (i : ℕ) (d : Page X) → i < length ps → st (get_or ps i d).numbers ≡ true
 room_stands m st k j [] h i d lt = absurd (omega arith)
