@@ -258,7 +258,3 @@ module _ {R X : Type 0} (m : Meaning R X) (st : X → Bool) (laws : Laws m) (n :
       ap (then (λ x. Ok (m.verdict x))) (close_agrees ls ps h.shows h.sound)
       ∙ elim (ltb (length (standing ls)) n) as (λ b. then (λ x. Ok (m.verdict x)) (cond b (Err ReadingsMissing) (Ok (m.total (standing ls)))) ≡ cond b (Err ReadingsMissing) (Ok (m.verdict (m.total (standing ls)))))
       [ true ↦ refl | false ↦ refl ]
-
-pub closing_keeps : {A : Type 0} (b : Bool) (ls : A) → after (cond b (Err ReadingsMissing) (Ok ls)) ls ≡ ls
-closing_keeps true ls = refl
-closing_keeps false ls = refl

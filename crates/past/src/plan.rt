@@ -9,6 +9,7 @@ use fault::Fault;
 use method::Method;
 use method::verdict::Verdict;
 use rows::Page;
+use std::ops::ControlFlow;
 
 // A method and the planned number of readings.
 #[derive(Clone, Copy)]
@@ -26,31 +27,18 @@ impl<M: Method + Copy> Plan<M> {
         ensures told { result ≡ answer (M.Method.meaning self.now.method) self.now.n (length pages.old) calls.now }
         ensures pages { Left (M.Method.meaning self.now.method) M.Method.stands self.now.n calls.now pages.old pages.new }
     {
-        let mut bench = match Bench::set_up(self.method, self.n, pages) {
-            Ok(bench) => bench,
-            Err((fault, _)) => return Err(fault),
-        };
+        let mut bench = Bench::set_up(self.method, self.n, pages).map_err(|(fault, _)| fault)?;
         for call in calls {
             match step(bench, pages, *call) {
-                Ok(lot) => {
+                ControlFlow::Continue(back) => bench = back,
+                ControlFlow::Break(lot) => {
                     let verdict = lot.judge();
                     let _ = lot.into_method();
                     return Ok(verdict);
                 }
-                Err(back) => bench = back,
             }
         }
-        match bench.close(pages) {
-            Ok(lot) => {
-                let verdict = lot.judge();
-                let _ = lot.into_method();
-                Ok(verdict)
-            }
-            Err((fault, bench)) => {
-                let _ = bench.into_method();
-                Err(fault)
-            }
-        }
+        bench.close_and_judge(pages)
     }
 
     // Sets a bench up, makes any calls in order, refused ones included, then closes it and judges the lot.

@@ -1,15 +1,10 @@
--- One page more of what is left of a row.
-use Rattle.std.proofs.Common.{◌≡◌, ℕ, zero, suc, ◌+◌, ◌-◌, ◌<◌, ◌≤◌, Bool, true, false, cond, eqb, List, [], ◌∷◌, length, get_or, drop, Some, Ok, sym, ap, ◌∙◌, arith}
-use Rattle.std.proofs.lemmas.List.{drop_more}
+-- Where a name was found, and what a granted check tells of the pages.
+use Rattle.std.proofs.Common.{◌≡◌, ℕ, zero, suc, ◌-◌, ◌<◌, ◌≤◌, Bool, true, false, cond, eqb, List, [], ◌∷◌, length, get_or, Some, Ok, arith}
 use Rattle.std.proofs.lemmas.Bool.Decides.{nat_tests}
 use Rattle.method.specs.Meaning.{Meaning}
 use Rattle.rows.specs.declared.page.Page.{Page}
 use Rattle.rows.specs.Checks.{checked, room}
 use Rattle.rows.specs.Pages.{found, place}
-
--- what is left of a list begins with the element that was read
-pub front : {X : Type 0} (xs : List X) (i : ℕ) (x : X) → i < length xs → x ≡ get_or xs i x → drop i xs ≡ x ∷ drop (i + 1) xs
-front xs i x lt is = drop_more xs i x lt ∙ ap (λ y. y ∷ drop (i + 1) xs) (sym is)
 
 pub place_length : {X : Type 0} (x : ℕ) (ps : List (Page X)) → place x ps ≤ length ps
 place_length x [] = omega arith
