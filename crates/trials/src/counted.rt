@@ -47,7 +47,7 @@ pub fn marks(heap: Global, chance: &mut Chance) -> Result<Findings, TrialError> 
     let share = draw_share(chance);
     let most = share.most.min(49) as i32;
     let mut slips = draw_marks(heap, share)?;
-    let side = second::marks(&slips, most)?;
+    let side = second::marks(&slips, most);
     for _ in 0..wrong(share.n, chance) {
         slips.push(chance.below(2) == 0)?;
     }
@@ -90,7 +90,7 @@ pub fn gauged(heap: Global, chance: &mut Chance) -> Result<Findings, TrialError>
             readings.push(inside(chance, low, high))?;
         }
     }
-    let side = second::gauged(&readings, low, high, most)?;
+    let side = second::gauged(&readings, low, high, most);
     let method = plans::gauged(low, high, most)?;
     let mut pages = [BLANK; DRUMS];
     of_readings(method, readings, side, chance, &mut pages)

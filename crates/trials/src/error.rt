@@ -13,6 +13,8 @@ pub enum TrialError {
     Plan(Fault),
     // A number of the second calculation passes 128 bits.
     TooLarge,
+    // The second calculation has no fractile for so many readings.
+    NoFractile,
     Memory,
     Output,
 }

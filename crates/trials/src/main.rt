@@ -16,6 +16,7 @@ mod working;
 use chance::Chance;
 use error::TrialError;
 use findings::Findings;
+use second::Side;
 use std::alloc::Global;
 use std::io;
 
@@ -65,7 +66,7 @@ impl Plan {
     // The same, where both ways agree.
     fn agreed(self, heap: Global, chance: &mut Chance) -> Result<Findings, TrialError> {
         let found = self.lot(heap, chance)?;
-        let (bench, second) = (found.accepted, found.side.is_accepted());
+        let (bench, second) = (found.accepted, found.side.verdict().is_yes());
         if bench == second {
             Ok(found)
         } else {
@@ -94,6 +95,7 @@ fn print_end(rt: &HostRuntime, letter: char, lot: u32, error: TrialError) -> io:
             println!(rt; "the plan is refused by {number}")
         }
         TrialError::TooLarge => println!(rt; "a number is too large"),
+        TrialError::NoFractile => println!(rt; "no fractile is known for so many readings"),
         TrialError::Memory => println!(rt; "no memory is left"),
         TrialError::Output => println!(rt; "nothing can be printed"),
     }
@@ -109,7 +111,7 @@ fn try_plan(rt: &HostRuntime, plan: Plan) -> Result<(), TrialError> {
         match plan.agreed(rt.alloc(), &mut chance) {
             Ok(found) => {
                 accepted = accepted.saturating_add(found.accepted as u32);
-                on_limit = on_limit.saturating_add(found.side.is_on_limit() as u32);
+                on_limit = on_limit.saturating_add((found.side == Side::OnLimit) as u32);
             }
             Err(error) => {
                 print_end(rt, letter, lot, error)?;
