@@ -1,60 +1,45 @@
 // Lots of the plans that count: A and G.
+use crate::agreement::{agreed, agreed_readings};
 use crate::chance::Chance;
-use crate::desk::DRUMS;
 use crate::error::TrialError;
-use crate::findings::{Findings, of_readings};
-use crate::patterns::wrong;
-use crate::second;
-use crate::working::carried_out;
-use attributes::counts::Counts;
-use rows::Page;
-use std::alloc::Global;
-
-const BLANK: Page<Counts> = Page {
-    name: 0,
-    numbers: Counts { n: 0, z: 0 },
-};
+use crate::second::{self, Side};
 
 // How many readings there are, how many of them do not conform, and how many may be so.
 #[derive(Clone, Copy)]
 struct Share {
-    n: u32,
-    amiss: u32,
-    most: u32,
+    n: usize,
+    amiss: usize,
+    most: i32,
 }
 
 // Any share, one on the limit, or one beyond it.
 fn draw_share(chance: &mut Chance) -> Share {
-    let n = chance.below(50).saturating_add(1);
+    let n = chance.below(50) + 1;
     let most = chance.below(n);
     let amiss = match chance.below(3) {
         0 => most,
-        1 => most.saturating_add(1),
-        _ => chance.below(n.saturating_add(1)),
+        1 => most + 1,
+        _ => chance.below(n + 1),
     };
-    Share { n, amiss, most }
-}
-
-fn draw_marks(heap: Global, share: Share) -> Result<Vec<bool>, TrialError> {
-    let mut marks = Vec::new(heap);
-    for i in 0..share.n {
-        marks.push(i >= share.amiss)?;
+    Share {
+        n,
+        amiss,
+        most: most as i32,
     }
-    Ok(marks)
 }
 
-pub fn marks(heap: Global, chance: &mut Chance) -> Result<Findings, TrialError> {
-    let share = draw_share(chance);
-    let most = share.most.min(49) as i32;
-    let mut slips = draw_marks(heap, share)?;
+pub fn marks(chance: &mut Chance) -> Result<Side, TrialError> {
+    let Share { n, amiss, most } = draw_share(chance);
+    let slips: Vec<bool> = (0..n).map(|i| i >= amiss).collect(chance.heap())?;
     let side = second::marks(&slips, most);
-    for _ in 0..wrong(share.n, chance) {
-        slips.push(chance.below(2) == 0)?;
-    }
-    let mut pages = [BLANK; DRUMS];
-    let method = plans::marks(most)?;
-    let accepted = carried_out(method, share.n, &slips, None, chance, &mut pages)?;
-    Ok(Findings { accepted, side })
+    agreed(
+        plans::marks(most)?,
+        slips,
+        None,
+        side,
+        |chance: &mut Chance| chance.below(2) == 0,
+        chance,
+    )
 }
 
 // A reading from low to high, at one of the two about as often as between them.
@@ -77,21 +62,18 @@ fn outside(chance: &mut Chance, low: i32, high: i32) -> i32 {
     }
 }
 
-pub fn gauged(heap: Global, chance: &mut Chance) -> Result<Findings, TrialError> {
-    let share = draw_share(chance);
-    let most = share.most.min(49) as i32;
+pub fn gauged(chance: &mut Chance) -> Result<Side, TrialError> {
+    let Share { n, amiss, most } = draw_share(chance);
     let low = chance.between(-1999, 1999);
     let high = chance.between(low, 1999);
-    let mut readings = Vec::new(heap);
-    for i in 0..share.n {
-        if i < share.amiss {
-            readings.push(outside(chance, low, high))?;
+    let heap = chance.heap();
+    let readings: Vec<i32> = (0..n)
+        .map(|i| if i < amiss {
+            outside(chance, low, high)
         } else {
-            readings.push(inside(chance, low, high))?;
-        }
-    }
+            inside(chance, low, high)
+        })
+        .collect(heap)?;
     let side = second::gauged(&readings, low, high, most);
-    let method = plans::gauged(low, high, most)?;
-    let mut pages = [BLANK; DRUMS];
-    of_readings(method, readings, side, chance, &mut pages)
+    agreed_readings(plans::gauged(low, high, most)?, readings, side, chance)
 }

@@ -1,184 +1,199 @@
-// A second record of what should stand on a bench, kept by slips: one slip for each reading.
+// A second record of what should stand on a bench: a slip for each reading, and the drum that it is entered on.
 use crate::chance::Chance;
+use fault::Fault;
+use std::alloc::AllocError;
 
 // The drums that can be open at a time: the pages of the bench.
 pub const DRUMS: usize = 6;
-
-// The most slips of a lot.
-const SLIPS: usize = 64;
 
 // The names that a lot uses; more than there are pages.
 const NAMES: u32 = 8;
 
 const HIGHEST_NAME: u32 = 255;
 
-// The names of the open drums, and for each slip the drum that it is entered on; 0 is none.
+// A reading, and the drum that it is entered on.
 #[derive(Clone, Copy)]
-pub struct Desk {
-    n: u32,
+struct Slip<R> {
+    reading: R,
+    drum: Option<u32>,
+}
+
+// The open drums, and the slips of a lot: the first n are right, the others wrong.
+#[derive(Drop)]
+pub struct Desk<R: Copy> {
+    n: usize,
     first_name: u32,
-    drums: [u32; DRUMS],
-    slips: [u32; SLIPS],
+    drums: [Option<u32>; DRUMS],
+    slips: Vec<Slip<R>>,
 }
 
-fn count(names: &[u32], name: u32) -> u32 {
-    let mut times: u32 = 0;
-    for x in names {
-        if *x == name {
-            times = times.saturating_add(1);
-        }
-    }
-    times
-}
-
-fn rename(names: &mut [u32], old: u32, new: u32) {
-    for x in names.iter_mut() {
-        if *x == old {
-            *x = new;
-        }
+// Whether a number is the name of a drum.
+fn named(name: u32) -> Result<(), Fault> {
+    if (1..=HIGHEST_NAME).contains(&name) {
+        Ok(())
+    } else {
+        Err(Fault::NameRange(0))
     }
 }
 
-fn is_name(name: u32) -> bool {
-    name > 0 && name <= HIGHEST_NAME
+// A place among the names of a lot.
+fn some_place(chance: &mut Chance) -> u32 {
+    chance.below(NAMES as usize) as u32
 }
 
-impl Desk {
-    pub fn new(n: u32, chance: &mut Chance) -> Desk {
-        Desk {
+// The bench's calls: each says how the bench should answer, and changes the desk where it is granted.
+impl<R: Copy> Desk<R> {
+    pub fn new(n: usize, readings: &[R], chance: &mut Chance) -> Result<Desk<R>, AllocError> {
+        let first_name = chance.below(247) as u32 + 1;
+        let slips = readings
+            .iter()
+            .map(|reading| Slip {
+                reading: *reading,
+                drum: None,
+            })
+            .collect(chance.heap())?;
+        Ok(Desk {
             n,
-            first_name: chance.below(247).saturating_add(1),
-            drums: [0; DRUMS],
-            slips: [0; SLIPS],
-        }
+            first_name,
+            drums: [None; DRUMS],
+            slips,
+        })
+    }
+
+    // How many of the slips are right.
+    pub fn planned(&self) -> usize {
+        self.n
+    }
+
+    // How many slips there are.
+    pub fn number(&self) -> usize {
+        self.slips.len()
     }
 
     pub fn is_open(&self, name: u32) -> bool {
-        count(&self.drums, name) > 0
+        self.drums.contains(&Some(name))
     }
 
     // Whether as many slips as planned are entered.
     pub fn is_full(&self) -> bool {
-        let loose = count(&self.slips, 0);
-        (SLIPS as u32).saturating_sub(loose) >= self.n
+        self.slips.iter().filter(|slip| slip.drum.is_some()).count() >= self.n
+    }
+
+    pub fn reading(&self, slip: usize) -> Option<R> {
+        self.slips.get(slip).map(|slip| slip.reading)
     }
 
     // The drum that a slip is entered on.
-    pub fn drum_of(&self, slip: usize) -> u32 {
-        if slip < SLIPS { self.slips[slip] } else { 0 }
+    pub fn drum_of(&self, slip: usize) -> Option<u32> {
+        self.slips.get(slip).and_then(|slip| slip.drum)
     }
 
-    // The number by which opening the name should be refused, or 0.
-    pub fn opening(&self, name: u32) -> u8 {
-        if !is_name(name) {
-            9
-        } else if self.is_open(name) {
-            10
-        } else if count(&self.drums, 0) == 0 {
-            11
+    fn standing(&self, name: u32) -> Result<(), Fault> {
+        if self.is_open(name) {
+            Ok(())
         } else {
-            0
+            Err(Fault::NameNotOpen(0))
         }
     }
 
-    pub fn striking(&self, name: u32) -> u8 {
-        if !is_name(name) {
-            9
-        } else if !self.is_open(name) {
-            12
-        } else {
-            0
+    pub fn open(&mut self, name: u32) -> Result<(), Fault> {
+        named(name)?;
+        if self.is_open(name) {
+            return Err(Fault::NameOpen(0));
         }
+        let Some(free) = self.drums.iter().position(|drum| drum.is_none()) else {
+            return Err(Fault::RowFull(0));
+        };
+        self.drums[free] = Some(name);
+        Ok(())
     }
 
-    // Entering a reading that no method takes.
-    pub fn reading_beyond(&self, name: u32) -> u8 {
-        match self.striking(name) {
-            0 => 14,
-            number => number,
-        }
+    pub fn strike(&mut self, name: u32) -> Result<(), Fault> {
+        named(name)?;
+        self.standing(name)?;
+        self.take_out(name, None);
+        Ok(())
     }
 
-    pub fn reading(&self, name: u32) -> u8 {
-        let number = self.striking(name);
-        if number == 0 && self.is_full() {
-            16
-        } else {
-            number
+    pub fn pour(&mut self, source: u32, goal: u32) -> Result<(), Fault> {
+        named(source)?;
+        named(goal)?;
+        self.standing(source)?;
+        self.standing(goal)?;
+        if source == goal {
+            return Err(Fault::PouredOntoItself(0));
         }
+        self.take_out(source, Some(goal));
+        Ok(())
     }
 
-    pub fn pouring(&self, source: u32, goal: u32) -> u8 {
-        if !is_name(source) || !is_name(goal) {
-            9
-        } else if !self.is_open(source) || !self.is_open(goal) {
-            12
-        } else if source == goal {
-            13
-        } else {
-            0
-        }
+    // Enters a reading that no method takes.
+    pub fn read_beyond(&self, name: u32) -> Result<(), Fault> {
+        named(name)?;
+        self.standing(name)?;
+        Err(Fault::ReadingNotTaken(0))
     }
 
-    pub fn open(&mut self, name: u32) {
-        for i in 0..DRUMS {
-            if self.drums[i] == 0 {
-                self.drums[i] = name;
-                return;
+    // Enters a slip on a drum.
+    pub fn read(&mut self, slip: usize, name: u32) -> Result<(), Fault> {
+        named(name)?;
+        self.standing(name)?;
+        if self.is_full() {
+            return Err(Fault::PlanFull(0));
+        }
+        if let Some(slip) = self.slips.get_mut(slip) {
+            slip.drum = Some(name);
+        }
+        Ok(())
+    }
+
+    // Takes a drum out; its slips go to another one, or are struck.
+    fn take_out(&mut self, name: u32, goal: Option<u32>) {
+        for drum in self.drums.iter_mut() {
+            if *drum == Some(name) {
+                *drum = None;
             }
         }
-    }
-
-    pub fn enter(&mut self, slip: usize, name: u32) {
-        if slip < SLIPS {
-            self.slips[slip] = name;
+        for slip in self.slips.iter_mut() {
+            if slip.drum == Some(name) {
+                slip.drum = goal;
+            }
         }
-    }
-
-    pub fn strike(&mut self, name: u32) {
-        rename(&mut self.drums, name, 0);
-        rename(&mut self.slips, name, 0);
-    }
-
-    pub fn pour(&mut self, source: u32, goal: u32) {
-        rename(&mut self.drums, source, 0);
-        rename(&mut self.slips, source, goal);
     }
 
     // One of the lot's names, or now and then a number that is no name.
     pub fn some_name(&self, chance: &mut Chance) -> u32 {
         match chance.below(32) {
             0 => 0,
-            1 => HIGHEST_NAME.saturating_add(1),
-            _ => self.first_name.saturating_add(chance.below(NAMES)),
+            1 => HIGHEST_NAME + 1,
+            _ => self.first_name.saturating_add(some_place(chance)),
         }
     }
 
     // An open drum, the first one from some place on; one of the lot's names where none is open.
     pub fn some_drum(&self, chance: &mut Chance) -> u32 {
-        let start = chance.below(NAMES);
-        for i in 0..NAMES {
-            let place = start.saturating_add(i) % NAMES;
-            let name = self.first_name.saturating_add(place);
-            if self.is_open(name) {
-                return name;
-            }
-        }
-        self.first_name
+        let start = some_place(chance);
+        (start..NAMES)
+            .chain(0..start)
+            .map(|place| self.first_name.saturating_add(place))
+            .find(|name| self.is_open(*name))
+            .unwrap_or(self.first_name)
     }
 
-    // A slip below the end that is not entered, the first one from some place on.
-    pub fn some_loose(&self, end: u32, chance: &mut Chance) -> Option<usize> {
-        if end == 0 {
-            return None;
-        }
+    // A slip that is not entered, the first one from some place on.
+    pub fn some_loose(&self, chance: &mut Chance) -> Option<usize> {
+        self.loose_below(self.slips.len(), chance)
+    }
+
+    // The same of the first n slips.
+    pub fn some_missing(&self, chance: &mut Chance) -> Option<usize> {
+        self.loose_below(self.n, chance)
+    }
+
+    fn loose_below(&self, end: usize, chance: &mut Chance) -> Option<usize> {
         let start = chance.below(end);
-        for i in 0..end {
-            let slip = (start.saturating_add(i) % end) as usize;
-            if self.drum_of(slip) == 0 {
-                return Some(slip);
-            }
-        }
-        None
+        (start..end)
+            .chain(0..start)
+            .find(|slip| self.drum_of(*slip).is_none())
     }
 }

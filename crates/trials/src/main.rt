@@ -1,12 +1,12 @@
 // Carries lots of every plan out on a bench, and holds each verdict to a second calculation.
 #![tactic(auto)]
 
+mod agreement;
 mod chance;
 mod counted;
 mod desk;
 mod error;
 mod exact;
-mod findings;
 mod limits;
 mod means;
 mod patterns;
@@ -15,9 +15,7 @@ mod working;
 
 use chance::Chance;
 use error::TrialError;
-use findings::Findings;
 use second::Side;
-use std::alloc::Global;
 use std::io;
 
 // The lots of each plan.
@@ -26,109 +24,49 @@ const LOTS: u32 = 400;
 // Each plan draws from this number and its letter.
 const SEED: u64 = 20_261;
 
-#[derive(Clone, Copy)]
-enum Plan {
-    Known,
-    Unknown,
-    Window,
-    Marks,
-    Gauged,
-    Mean,
-    Paired,
-}
-
-impl Plan {
-    fn letter(self) -> char {
-        match self {
-            Plan::Known => 'K',
-            Plan::Unknown => 'U',
-            Plan::Window => 'W',
-            Plan::Marks => 'A',
-            Plan::Gauged => 'G',
-            Plan::Mean => 'T',
-            Plan::Paired => 'V',
-        }
-    }
-
-    // Draws one lot, and judges it in both ways.
-    fn lot(self, heap: Global, chance: &mut Chance) -> Result<Findings, TrialError> {
-        match self {
-            Plan::Known => limits::known(heap, chance),
-            Plan::Unknown => limits::unknown(heap, chance),
-            Plan::Window => limits::window(heap, chance),
-            Plan::Marks => counted::marks(heap, chance),
-            Plan::Gauged => counted::gauged(heap, chance),
-            Plan::Mean => means::mean(heap, chance),
-            Plan::Paired => means::paired(heap, chance),
-        }
-    }
-
-    // The same, where both ways agree.
-    fn agreed(self, heap: Global, chance: &mut Chance) -> Result<Findings, TrialError> {
-        let found = self.lot(heap, chance)?;
-        let (bench, second) = (found.accepted, found.side.verdict().is_yes());
-        if bench == second {
-            Ok(found)
-        } else {
-            Err(TrialError::Verdict { bench, second })
-        }
-    }
-}
-
-fn verdict(accepted: bool) -> &'static str {
-    if accepted { "accepted" } else { "not accepted" }
-}
-
-// Prints at which lot of a plan the trials end, and why.
-fn print_end(rt: &HostRuntime, letter: char, lot: u32, error: TrialError) -> io::Result<()> {
-    print!(rt; "{letter} lot {lot}: ")?;
-    match error {
-        TrialError::Answer { given, expected } => {
-            println!(rt; "the bench answers {given}, expected was {expected}")
-        }
-        TrialError::Verdict { bench, second } => {
-            let (bench, second) = (verdict(bench), verdict(second));
-            println!(rt; "{bench} by the bench, {second} by the second calculation")
-        }
-        TrialError::Plan(fault) => {
-            let number = fault.number();
-            println!(rt; "the plan is refused by {number}")
-        }
-        TrialError::TooLarge => println!(rt; "a number is too large"),
-        TrialError::NoFractile => println!(rt; "no fractile is known for so many readings"),
-        TrialError::Memory => println!(rt; "no memory is left"),
-        TrialError::Output => println!(rt; "nothing can be printed"),
-    }
-}
-
-// Tries lots of a plan until one is not agreed on.
-fn try_plan(rt: &HostRuntime, plan: Plan) -> Result<(), TrialError> {
-    let letter = plan.letter();
-    let mut chance = Chance::new(SEED ^ letter as u64);
-    let mut accepted: u32 = 0;
-    let mut on_limit: u32 = 0;
-    for lot in 0..LOTS {
-        match plan.agreed(rt.alloc(), &mut chance) {
-            Ok(found) => {
-                accepted = accepted.saturating_add(found.accepted as u32);
-                on_limit = on_limit.saturating_add((found.side == Side::OnLimit) as u32);
-            }
+// Where lots of a plan lie to its limit, if the bench and the second calculation agree on all of them.
+fn tried<F: Fn(&mut Chance) -> Result<Side, TrialError>>(
+    rt: &HostRuntime,
+    letter: char,
+    lot: F,
+) -> Result<Vec<Side>, TrialError>
+    requires { F.IsAlwaysCallable lot }
+{
+    let mut chance = Chance::new(rt.alloc(), SEED ^ u64::from(letter));
+    let mut sides = Vec::new(rt.alloc());
+    for i in 0..LOTS {
+        match lot(&mut chance) {
+            Ok(side) => sides.push(side)?,
             Err(error) => {
-                print_end(rt, letter, lot, error)?;
+                println!(rt; "{letter} lot {i}: {error}")?;
                 return Err(error);
             }
         }
     }
+    Ok(sides)
+}
+
+// Tries lots of a plan, and counts them.
+fn try_plan<F: Fn(&mut Chance) -> Result<Side, TrialError>>(
+    rt: &HostRuntime,
+    letter: char,
+    lot: F,
+) -> Result<(), TrialError>
+    requires { F.IsAlwaysCallable lot }
+{
+    let sides = tried(rt, letter, lot)?;
+    let accepted = sides.iter().filter(|side| side.verdict().is_yes()).count();
+    let on_limit = sides.iter().filter(|side| **side == Side::OnLimit).count();
     println!(rt; "{letter} {LOTS} lots agreed, {accepted} accepted, {on_limit} on the limit")?;
     Ok(())
 }
 
 fn main(rt: HostRuntime) -> Result<(), TrialError> {
-    try_plan(&rt, Plan::Known)?;
-    try_plan(&rt, Plan::Unknown)?;
-    try_plan(&rt, Plan::Window)?;
-    try_plan(&rt, Plan::Marks)?;
-    try_plan(&rt, Plan::Gauged)?;
-    try_plan(&rt, Plan::Mean)?;
-    try_plan(&rt, Plan::Paired)
+    try_plan(&rt, 'K', limits::known)?;
+    try_plan(&rt, 'U', limits::unknown)?;
+    try_plan(&rt, 'W', limits::window)?;
+    try_plan(&rt, 'A', counted::marks)?;
+    try_plan(&rt, 'G', counted::gauged)?;
+    try_plan(&rt, 'T', means::mean)?;
+    try_plan(&rt, 'V', means::paired)
 }

@@ -1,20 +1,11 @@
 // Lots of the plans on a mean: T and V.
+use crate::agreement::{agreed, agreed_readings};
 use crate::chance::Chance;
-use crate::desk::DRUMS;
 use crate::error::TrialError;
-use crate::findings::{Findings, of_readings};
-use crate::patterns::{all_but_one, at_ends, balanced, nudge, number, scattered, wrong};
-use crate::second;
-use crate::working::carried_out;
-use rows::Page;
-use std::alloc::Global;
+use crate::patterns::{Lone, at_ends, balanced, nudge, scattered};
+use crate::second::{self, Side};
+use std::alloc::AllocError;
 use through::difference::Pair;
-use variables::sums::Sums;
-
-const BLANK: Page<Sums> = Page {
-    name: 0,
-    numbers: Sums { n: 0, s: 0, q: 0 },
-};
 
 // A pair whose difference is no reading.
 const BEYOND: Pair = Pair {
@@ -22,64 +13,52 @@ const BEYOND: Pair = Pair {
     second: -1_000,
 };
 
-fn draw_n(chance: &mut Chance) -> u32 {
-    chance.below(20).saturating_add(2)
+// A number of readings, a level above the mean, and how far a lone reading is from it, so that Student's fractile is just met.
+const JUST_MET: [(usize, i32, i32); 8] = [
+    (3, 16, 25),
+    (5, 283, 1250),
+    (6, 203, 1200),
+    (8, 179, 1600),
+    (9, 43, 450),
+    (18, 37, 900),
+    (21, 29, 840),
+    (3, 320, 500),
+];
+
+fn draw_n(chance: &mut Chance) -> usize {
+    chance.below(20) + 2
 }
 
 // Readings from a range around the mean that is not quite in the middle of it.
-fn around(heap: Global, chance: &mut Chance, mean: i32) -> Result<Vec<i32>, TrialError> {
+fn around(chance: &mut Chance, mean: i32) -> Result<Vec<i32>, AllocError> {
     let n = draw_n(chance);
     let width = chance.between(0, 300);
     let centre = mean.saturating_add(chance.between(0, width));
-    scattered(
-        heap,
-        chance,
-        n,
-        centre.saturating_sub(width),
-        centre.saturating_add(width),
-    )
+    let (low, high) = (centre.saturating_sub(width), centre.saturating_add(width));
+    scattered(chance, n, low, high)
 }
 
 // Readings of the mean, or as far above as below it.
-fn even(heap: Global, chance: &mut Chance, mean: i32) -> Result<Vec<i32>, TrialError> {
+fn even(chance: &mut Chance, mean: i32) -> Result<Vec<i32>, AllocError> {
     let n = draw_n(chance);
     let away = chance.between(-3, 3).max(0);
-    balanced(heap, n, mean, away)
+    balanced(chance.heap(), n, mean, away)
 }
 
-// A number of readings, a level, and how far a lone reading is from it, so that Student's fractile is just met.
-fn just_met(chance: &mut Chance) -> (u32, i32, i32) {
-    match chance.below(8) {
-        0 => (3, 16, 25),
-        1 => (5, 283, 1250),
-        2 => (6, 203, 1200),
-        3 => (8, 179, 1600),
-        4 => (9, 43, 450),
-        5 => (18, 37, 900),
-        6 => (21, 29, 840),
-        _ => (3, 320, 500),
-    }
-}
-
-fn on_limit(heap: Global, chance: &mut Chance, mean: i32) -> Result<Vec<i32>, TrialError> {
-    let (n, level, apart) = just_met(chance);
+fn on_limit(chance: &mut Chance, mean: i32) -> Result<Vec<i32>, AllocError> {
+    let (n, level, apart) = JUST_MET[chance.below(8)];
     let sign = chance.sign();
-    all_but_one(
-        heap,
-        n,
-        mean.saturating_add(level.saturating_mul(sign)),
-        apart.saturating_mul(sign),
-    )
+    Lone { n, level, apart }.readings(chance.heap(), mean, sign)
 }
 
 // Readings, or differences, that are held to the mean.
-fn draw(heap: Global, chance: &mut Chance, mean: i32) -> Result<Vec<i32>, TrialError> {
+fn draw(chance: &mut Chance, mean: i32) -> Result<Vec<i32>, AllocError> {
     match chance.below(4) {
-        0 => around(heap, chance, mean),
-        1 => even(heap, chance, mean),
-        2 => on_limit(heap, chance, mean),
+        0 => around(chance, mean),
+        1 => even(chance, mean),
+        2 => on_limit(chance, mean),
         _ => {
-            let mut readings = on_limit(heap, chance, mean)?;
+            let mut readings = on_limit(chance, mean)?;
             nudge(&mut readings, chance);
             Ok(readings)
         }
@@ -87,42 +66,36 @@ fn draw(heap: Global, chance: &mut Chance, mean: i32) -> Result<Vec<i32>, TrialE
 }
 
 // Readings at the ends of their range.
-fn wide(heap: Global, chance: &mut Chance) -> Result<Vec<i32>, TrialError> {
+fn wide(chance: &mut Chance) -> Result<Vec<i32>, AllocError> {
     let n = draw_n(chance);
-    at_ends(heap, chance, n)
+    at_ends(chance, n)
 }
 
 // A mean, and readings that are held to it.
-fn draw_mean(heap: Global, chance: &mut Chance) -> Result<(i32, Vec<i32>), TrialError> {
+fn draw_mean(chance: &mut Chance) -> Result<(i32, Vec<i32>), AllocError> {
     if chance.below(8) == 0 {
         let mean = chance.between(-2000, 2000);
-        Ok((mean, wide(heap, chance)?))
+        Ok((mean, wide(chance)?))
     } else {
         let mean = chance.between(-200, 200);
-        Ok((mean, draw(heap, chance, mean)?))
+        Ok((mean, draw(chance, mean)?))
     }
 }
 
 // Differences that are held to 0.
-fn draw_differences(heap: Global, chance: &mut Chance) -> Result<Vec<i32>, TrialError> {
+fn draw_differences(chance: &mut Chance) -> Result<Vec<i32>, AllocError> {
     if chance.below(8) == 0 {
-        wide(heap, chance)
+        wide(chance)
     } else {
-        draw(heap, chance, 0)
+        draw(chance, 0)
     }
 }
 
-// The number of a list's readings, as the plans take it.
-fn planned(readings: &[i32]) -> i32 {
-    number(readings) as i32
-}
-
-pub fn mean(heap: Global, chance: &mut Chance) -> Result<Findings, TrialError> {
-    let (expected, readings) = draw_mean(heap, chance)?;
+pub fn mean(chance: &mut Chance) -> Result<Side, TrialError> {
+    let (expected, readings) = draw_mean(chance)?;
     let side = second::mean(&readings, expected)?;
-    let method = plans::mean(planned(&readings), expected)?;
-    let mut pages = [BLANK; DRUMS];
-    of_readings(method, readings, side, chance, &mut pages)
+    let method = plans::mean(i32::try_from(readings.len())?, expected)?;
+    agreed_readings(method, readings, side, chance)
 }
 
 // A pair of readings with the difference.
@@ -136,37 +109,24 @@ fn pair_with(chance: &mut Chance, difference: i32) -> Pair {
     }
 }
 
-fn differences(heap: Global, pairs: &[Pair]) -> Result<Vec<i32>, TrialError> {
-    let mut found = Vec::new(heap);
-    for pair in pairs {
-        found.push(pair.first.saturating_sub(pair.second))?;
-    }
-    Ok(found)
+// A pair with any difference.
+fn any_pair(chance: &mut Chance) -> Pair {
+    let difference = chance.between(-2000, 2000);
+    pair_with(chance, difference)
 }
 
-fn pairs_of(
-    heap: Global,
-    chance: &mut Chance,
-    differences: &[i32],
-) -> Result<Vec<Pair>, TrialError> {
-    let mut pairs = Vec::new(heap);
-    for difference in differences {
-        pairs.push(pair_with(chance, *difference))?;
-    }
-    Ok(pairs)
-}
-
-pub fn paired(heap: Global, chance: &mut Chance) -> Result<Findings, TrialError> {
-    let drawn = draw_differences(heap, chance)?;
-    let n = number(&drawn);
-    let mut slips = pairs_of(heap, chance, &drawn)?;
-    let side = second::mean(&differences(heap, &slips)?, 0)?;
-    for _ in 0..wrong(n, chance) {
-        let difference = chance.between(-2000, 2000);
-        slips.push(pair_with(chance, difference))?;
-    }
-    let method = plans::paired(planned(&drawn))?;
-    let mut pages = [BLANK; DRUMS];
-    let accepted = carried_out(method, n, &slips, Some(BEYOND), chance, &mut pages)?;
-    Ok(Findings { accepted, side })
+pub fn paired(chance: &mut Chance) -> Result<Side, TrialError> {
+    let heap = chance.heap();
+    let drawn = draw_differences(chance)?;
+    let slips: Vec<Pair> = drawn
+        .iter()
+        .map(|difference| pair_with(chance, *difference))
+        .collect(heap)?;
+    let differences: Vec<i32> = slips
+        .iter()
+        .map(|pair| pair.first.saturating_sub(pair.second))
+        .collect(heap)?;
+    let side = second::mean(&differences, 0)?;
+    let method = plans::paired(i32::try_from(slips.len())?)?;
+    agreed(method, slips, Some(BEYOND), side, any_pair, chance)
 }

@@ -1,22 +1,18 @@
 // Carries a lot out on a bench: its slips are entered, struck, poured and entered again in a random order.
 use crate::chance::Chance;
-use crate::desk::Desk;
+use crate::desk::{DRUMS, Desk};
 use crate::error::TrialError;
-use crate::patterns::number;
 use bench::Bench;
 use fault::Fault;
 use method::Method;
+use method::verdict::Verdict;
 use rows::Page;
 
 // The random calls before a lot is finished.
 const CALLS: u32 = 40;
 
-// Whether a call was answered as expected.
-fn told(answer: Result<(), Fault>, expected: u8) -> Result<(), TrialError> {
-    let given = match answer {
-        Ok(()) => 0,
-        Err(fault) => fault.number(),
-    };
+// Holds the answer to a call to the one that was expected.
+fn told(given: Result<(), Fault>, expected: Result<(), Fault>) -> Result<(), TrialError> {
     if given == expected {
         Ok(())
     } else {
@@ -24,250 +20,207 @@ fn told(answer: Result<(), Fault>, expected: u8) -> Result<(), TrialError> {
     }
 }
 
-fn open<M: Method>(
-    bench: &Bench<M>,
-    pages: &mut [Page<M::Numbers>],
-    desk: &mut Desk,
-    name: u32,
-) -> Result<(), TrialError> {
-    let expected = desk.opening(name);
-    told(bench.open(pages, name), expected)?;
-    if expected == 0 {
-        desk.open(name);
-    }
-    Ok(())
+// A bench with its pages, the desk that says what should stand on them, and the numbers for the next calls.
+struct Work<'a, M: Method + Copy> {
+    bench: Bench<M>,
+    pages: Vec<Page<M::Numbers>>,
+    desk: Desk<M::Reading>,
+    chance: &'a mut Chance,
 }
 
-fn strike<M: Method>(
-    bench: &Bench<M>,
-    pages: &mut [Page<M::Numbers>],
-    desk: &mut Desk,
-    name: u32,
-) -> Result<(), TrialError> {
-    let expected = desk.striking(name);
-    told(bench.strike(pages, name), expected)?;
-    if expected == 0 {
-        desk.strike(name);
+// Gives the bench up.
+impl<'a, M: Method + Copy> Drop for Work<'a, M> {
+    fn drop(self) {
+        let Work {
+            bench,
+            pages: _,
+            desk: _,
+            chance: _,
+        } = self;
+        let _ = bench.into_method();
     }
-    Ok(())
 }
 
-fn pour<M: Method>(
-    bench: &Bench<M>,
-    pages: &mut [Page<M::Numbers>],
-    desk: &mut Desk,
-    source: u32,
-    goal: u32,
-) -> Result<(), TrialError> {
-    let expected = desk.pouring(source, goal);
-    told(bench.pour(pages, source, goal), expected)?;
-    if expected == 0 {
-        desk.pour(source, goal);
+impl<'a, M: Method + Copy> Work<'a, M> {
+    // Sets the bench up for n of the readings; the others are wrong.
+    fn set_up(
+        method: M,
+        n: usize,
+        readings: &[M::Reading],
+        chance: &'a mut Chance,
+    ) -> Result<Work<'a, M>, TrialError> {
+        let desk = Desk::new(n, readings, chance)?;
+        let numbers = method.numbers(method.blank());
+        let mut pages = vec![in chance.heap(); Page { name: 0, numbers }; DRUMS]?;
+        let bench = Bench::set_up(method, u32::try_from(n)?, &mut pages).map_err(|(
+            fault,
+            _,
+        )| fault)?;
+        Ok(Work {
+            bench,
+            pages,
+            desk,
+            chance,
+        })
     }
-    Ok(())
-}
 
-// Enters the slip's reading on a drum.
-fn read<M: Method>(
-    bench: &Bench<M>,
-    pages: &mut [Page<M::Numbers>],
-    desk: &mut Desk,
-    slips: &[M::Reading],
-    slip: usize,
-    name: u32,
-) -> Result<(), TrialError> {
-    if slip >= slips.len() {
-        return Ok(());
+    fn open(&mut self, name: u32) -> Result<(), TrialError> {
+        told(self.bench.open(&mut self.pages, name), self.desk.open(name))
     }
-    let expected = desk.reading(name);
-    told(bench.read(pages, name, slips[slip]), expected)?;
-    if expected == 0 {
-        desk.enter(slip, name);
-    }
-    Ok(())
-}
 
-// Makes one call at random.
-fn step<M: Method>(
-    bench: &Bench<M>,
-    pages: &mut [Page<M::Numbers>],
-    desk: &mut Desk,
-    slips: &[M::Reading],
-    chance: &mut Chance,
-) -> Result<(), TrialError> {
-    let name = desk.some_name(chance);
-    match chance.below(16) {
-        0 => strike(bench, pages, desk, name),
-        1 => {
-            let goal = desk.some_name(chance);
-            pour(bench, pages, desk, name, goal)
-        }
-        2 | 3 | 4 => open(bench, pages, desk, name),
-        _ => match desk.some_loose(number(slips), chance) {
-            Some(slip) => read(bench, pages, desk, slips, slip, name),
+    fn strike(&mut self, name: u32) -> Result<(), TrialError> {
+        told(
+            self.bench.strike(&mut self.pages, name),
+            self.desk.strike(name),
+        )
+    }
+
+    fn pour(&mut self, source: u32, goal: u32) -> Result<(), TrialError> {
+        told(
+            self.bench.pour(&mut self.pages, source, goal),
+            self.desk.pour(source, goal),
+        )
+    }
+
+    // Enters the slip's reading on a drum.
+    fn read(&mut self, slip: usize, name: u32) -> Result<(), TrialError> {
+        match self.desk.reading(slip) {
+            Some(reading) => told(
+                self.bench.read(&mut self.pages, name, reading),
+                self.desk.read(slip, name),
+            ),
             None => Ok(()),
-        },
-    }
-}
-
-// Makes calls at random, and one with a reading that no method takes.
-fn walk<M: Method>(
-    bench: &Bench<M>,
-    pages: &mut [Page<M::Numbers>],
-    desk: &mut Desk,
-    slips: &[M::Reading],
-    beyond: Option<M::Reading>,
-    chance: &mut Chance,
-) -> Result<(), TrialError> {
-    for _ in 0..CALLS {
-        step(bench, pages, desk, slips, chance)?;
-    }
-    let name = desk.some_drum(chance);
-    match beyond {
-        Some(reading) => told(bench.read(pages, name, reading), desk.reading_beyond(name)),
-        None => Ok(()),
-    }
-}
-
-// Strikes each drum that holds one of the slips from n on, which are wrong.
-fn strike_wrong<M: Method>(
-    bench: &Bench<M>,
-    pages: &mut [Page<M::Numbers>],
-    desk: &mut Desk,
-    n: u32,
-    slips: &[M::Reading],
-) -> Result<(), TrialError> {
-    for slip in n as usize..slips.len() {
-        let name = desk.drum_of(slip);
-        if name != 0 {
-            strike(bench, pages, desk, name)?;
         }
     }
-    Ok(())
-}
 
-// Enters those of the first n slips that are not entered.
-fn fill<M: Method>(
-    bench: &Bench<M>,
-    pages: &mut [Page<M::Numbers>],
-    desk: &mut Desk,
-    n: u32,
-    slips: &[M::Reading],
-    chance: &mut Chance,
-) -> Result<(), TrialError> {
-    for _ in 0..n {
-        let name = desk.some_drum(chance);
-        if !desk.is_open(name) {
-            open(bench, pages, desk, name)?;
-        }
-        if let Some(slip) = desk.some_loose(n, chance) {
-            read(bench, pages, desk, slips, slip, name)?;
+    // Makes one call at random.
+    fn step(&mut self) -> Result<(), TrialError> {
+        let name = self.desk.some_name(self.chance);
+        match self.chance.below(16) {
+            0 => self.strike(name),
+            1 => {
+                let goal = self.desk.some_name(self.chance);
+                self.pour(name, goal)
+            }
+            2..=4 => self.open(name),
+            _ => match self.desk.some_loose(self.chance) {
+                Some(slip) => self.read(slip, name),
+                None => Ok(()),
+            },
         }
     }
-    Ok(())
-}
 
-// Brings the bench to the first n slips, and tries to enter one more.
-fn finish<M: Method>(
-    bench: &Bench<M>,
-    pages: &mut [Page<M::Numbers>],
-    desk: &mut Desk,
-    n: u32,
-    slips: &[M::Reading],
-    chance: &mut Chance,
-) -> Result<(), TrialError> {
-    strike_wrong(bench, pages, desk, n, slips)?;
-    fill(bench, pages, desk, n, slips, chance)?;
-    let name = desk.some_drum(chance);
-    read(bench, pages, desk, slips, 0, name)
-}
+    // Makes calls at random, and one with a reading that no method takes.
+    fn walk(&mut self, beyond: Option<M::Reading>) -> Result<(), TrialError> {
+        for _ in 0..CALLS {
+            self.step()?;
+        }
+        let name = self.desk.some_drum(self.chance);
+        match beyond {
+            Some(reading) => told(
+                self.bench.read(&mut self.pages, name, reading),
+                self.desk.read_beyond(name),
+            ),
+            None => Ok(()),
+        }
+    }
 
-fn set_up<M: Method + Copy>(
-    method: M,
-    n: u32,
-    pages: &mut [Page<M::Numbers>],
-) -> Result<Bench<M>, TrialError> {
-    match Bench::set_up(method, n, pages) {
-        Ok(bench) => Ok(bench),
-        Err(refusal) => Err(TrialError::Plan(refusal.0)),
+    // Strikes each drum that holds a wrong slip.
+    fn strike_wrong(&mut self) -> Result<(), TrialError> {
+        for slip in self.desk.planned()..self.desk.number() {
+            if let Some(name) = self.desk.drum_of(slip) {
+                self.strike(name)?;
+            }
+        }
+        Ok(())
+    }
+
+    // Enters the slips that are missing.
+    fn fill(&mut self) -> Result<(), TrialError> {
+        for _ in 0..self.desk.planned() {
+            let name = self.desk.some_drum(self.chance);
+            if !self.desk.is_open(name) {
+                self.open(name)?;
+            }
+            if let Some(slip) = self.desk.some_missing(self.chance) {
+                self.read(slip, name)?;
+            }
+        }
+        Ok(())
+    }
+
+    // Brings the bench to the planned slips, and tries to enter one more.
+    fn finish(&mut self) -> Result<(), TrialError> {
+        self.strike_wrong()?;
+        self.fill()?;
+        let name = self.desk.some_drum(self.chance);
+        self.read(0, name)
+    }
+
+    // Closes the bench, and judges the lot; a refusal hands the work back.
+    fn closed(self) -> Result<Verdict, (Fault, Work<'a, M>)> {
+        let Work {
+            bench,
+            pages,
+            desk,
+            chance,
+        } = self;
+        match bench.close(&pages) {
+            Ok(lot) => {
+                let verdict = lot.judge();
+                let _ = lot.into_method();
+                Ok(verdict)
+            }
+            Err((fault, bench)) => {
+                let work = Work {
+                    bench,
+                    pages,
+                    desk,
+                    chance,
+                };
+                Err((fault, work))
+            }
+        }
+    }
+
+    // Tries to close the bench while readings are missing.
+    fn not_closed(self) -> Result<Work<'a, M>, TrialError> {
+        if self.desk.is_full() {
+            return Ok(self);
+        }
+        let expected = Err(Fault::ReadingsMissing);
+        match self.closed() {
+            Ok(_) => Err(TrialError::Answer {
+                given: Ok(()),
+                expected,
+            }),
+            Err((fault, work)) => {
+                told(Err(fault), expected)?;
+                Ok(work)
+            }
+        }
+    }
+
+    // What is said of the lot, once its readings stand.
+    fn judged(self) -> Result<Verdict, TrialError> {
+        self.closed().map_err(|(fault, _)| TrialError::Answer {
+            given: Err(fault),
+            expected: Ok(()),
+        })
     }
 }
 
-// The bench, where what was done on it went as expected.
-fn kept<M: Method + Copy>(
-    bench: Bench<M>,
-    done: Result<(), TrialError>,
-) -> Result<Bench<M>, TrialError> {
-    match done {
-        Ok(()) => Ok(bench),
-        Err(error) => {
-            let _ = bench.into_method();
-            Err(error)
-        }
-    }
-}
-
-// Tries to close the bench while readings are missing.
-fn not_closed<M: Method + Copy>(
-    bench: Bench<M>,
-    pages: &[Page<M::Numbers>],
-    desk: &Desk,
-) -> Result<Bench<M>, TrialError> {
-    if desk.is_full() {
-        return Ok(bench);
-    }
-    match bench.close(pages) {
-        Ok(lot) => {
-            let _ = lot.into_method();
-            Err(TrialError::Answer {
-                given: 0,
-                expected: 17,
-            })
-        }
-        Err(refusal) => {
-            let (fault, bench) = refusal;
-            kept(bench, told(Err(fault), 17))
-        }
-    }
-}
-
-// Closes the bench, and says whether the lot is accepted.
-fn judged<M: Method + Copy>(
-    bench: Bench<M>,
-    pages: &[Page<M::Numbers>],
-) -> Result<bool, TrialError> {
-    match bench.close(pages) {
-        Ok(lot) => {
-            let accepted = lot.judge().is_yes();
-            let _ = lot.into_method();
-            Ok(accepted)
-        }
-        Err(refusal) => {
-            let (fault, bench) = refusal;
-            let _ = bench.into_method();
-            Err(TrialError::Answer {
-                given: fault.number(),
-                expected: 0,
-            })
-        }
-    }
-}
-
-// Whether the lot of the first n slips is accepted. The other slips are entered by mistake, and struck.
+// What is said of the lot of the first n readings. The others are entered by mistake, and struck.
 pub fn carried_out<M: Method + Copy>(
     method: M,
-    n: u32,
-    slips: &[M::Reading],
+    n: usize,
+    readings: &[M::Reading],
     beyond: Option<M::Reading>,
     chance: &mut Chance,
-    pages: &mut [Page<M::Numbers>],
-) -> Result<bool, TrialError> {
-    let mut desk = Desk::new(n, chance);
-    let bench = set_up(method, n, pages)?;
-    let walked = walk(&bench, pages, &mut desk, slips, beyond, chance);
-    let bench = kept(bench, walked)?;
-    let bench = not_closed(bench, pages, &desk)?;
-    let finished = finish(&bench, pages, &mut desk, n, slips, chance);
-    let bench = kept(bench, finished)?;
-    judged(bench, pages)
+) -> Result<Verdict, TrialError> {
+    let mut work = Work::set_up(method, n, readings, chance)?;
+    work.walk(beyond)?;
+    let mut work = work.not_closed()?;
+    work.finish()?;
+    work.judged()
 }
