@@ -29,7 +29,7 @@ impl Chance {
         (self.state >> 33) as usize
     }
 
-    // A number below the end; 0 where there is none.
+    // A number below the end; 0 where there is none, since nothing is asked of a call.
     pub fn below(&mut self, end: usize) -> usize
         ensures { 0 < end → result < end }
     {
@@ -39,7 +39,7 @@ impl Chance {
         self.next() % end
     }
 
-    // A number from low to high; low where there is none.
+    // A number from low to high; low where there is none, for the same reason.
     pub fn between(&mut self, low: i32, high: i32) -> i32
         ensures from { low ≤ℤ result }
         ensures upto { low ≤ℤ high → result ≤ℤ high }

@@ -6,6 +6,7 @@ use crate::patterns::{Lone, at_ends, balanced, nudge, scattered};
 use crate::second::{self, Side};
 use std::alloc::AllocError;
 
+// The constants of every plan with limits, of which each plan takes its own, and the readings of a lot.
 #[derive(Drop)]
 struct Lot {
     lower: i32,
@@ -157,6 +158,7 @@ fn nudged(mut lot: Lot, chance: &mut Chance) -> Lot {
     lot
 }
 
+// The ways to draw a lot are arms: a table of functions would have to keep of each that it may be called.
 fn draw_known(chance: &mut Chance) -> Result<Lot, AllocError> {
     match chance.below(5) {
         0 => any_lot(chance),
