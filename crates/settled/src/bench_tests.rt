@@ -1,25 +1,26 @@
 // The calls of a bench on rows of pages: settled examples, and a refusal of each number that a row can get.
 // No row gives 15: the counts of a consistent row are together at most n, so no two pages pass n when joined.
+use crate::refusal::refusal;
+use crate::sheets::BLANK;
 use bench::Bench;
 use fault::Fault;
+use method::Method;
+use method::verdict::Verdict;
+use past::Call;
 use rows::Page;
 use std::process::Abort;
 use std::test::Fail;
+use variables::inspection::Variables;
 use variables::sums::Sums;
-use variables::unknown::Unknown;
 
-const BLANK: Page<Sums> = Page {
-    name: 0,
-    numbers: Sums { n: 0, s: 0, q: 0 },
-};
+// The methods that each of these tests is run for: both accept a lot whose mean is 10 or more.
+fn by_itself() -> Result<variables::unknown::Unknown, Fault> {
+    variables::unknown::Unknown::new(10, 0)
+}
 
-#[derive(Clone, Copy)]
-enum Call {
-    Open(u32),
-    Read(u32, i32),
-    Strike(u32),
-    Pour(u32, u32),
-    Close,
+fn by_criterion() -> Result<Variables<criteria::unknown::Unknown>, Fault> {
+    let criterion = criteria::unknown::Unknown::new(10, 0)?;
+    Ok(Variables { criterion })
 }
 
 fn page(name: u32, n: u32, s: i64, q: u64) -> Page<Sums> {
@@ -34,82 +35,168 @@ fn five(name: u32) -> Page<Sums> {
     page(name, 1, 5, 25)
 }
 
-fn numbers(page: Page<Sums>) -> (u32, u32, i64, u64) {
-    (page.name, page.numbers.n, page.numbers.s, page.numbers.q)
+fn set_up<M: Method<Reading = i32, Numbers = Sums> + Copy>(
+    method: M,
+    n: u32,
+    pages: &mut [Page<Sums>],
+) -> Result<Bench<M>, Fault> {
+    Bench::set_up(method, n, pages).map_err(|(fault, _)| fault)
 }
 
-fn same(row: &[Page<Sums>], other: &[Page<Sums>]) -> bool {
-    if row.len() != other.len() {
-        return false;
-    }
-    for i in 0..row.len() {
-        if numbers(row[i]) != numbers(other[i]) {
-            return false;
-        }
-    }
-    true
-}
-
-// The number of the refusal, or 0.
-fn number<T: Drop>(answer: Result<T, Fault>) -> u8 {
-    match answer {
-        Ok(_) => 0,
-        Err(fault) => fault.number(),
-    }
-}
-
-fn bench_for(n: u32, pages: &mut [Page<Sums>]) -> Result<Bench<Unknown>, Fault> {
-    let method = Unknown::new(10, 0)?;
-    match Bench::set_up(method, n, pages) {
-        Ok(bench) => Ok(bench),
-        Err(refusal) => Err(refusal.0),
-    }
-}
-
-// Closes a bench, and says whether its lot is accepted.
-fn judged(bench: Bench<Unknown>, pages: &[Page<Sums>]) -> Result<bool, Fault> {
-    match bench.close(pages) {
-        Ok(lot) => {
-            let yes = lot.judge().is_yes();
-            let _ = lot.into_method();
-            Ok(yes)
-        }
-        Err(refusal) => {
-            let (fault, bench) = refusal;
-            let _ = bench.into_method();
-            Err(fault)
-        }
-    }
-}
-
-// Makes one call of a bench for n readings on any row.
-fn told(n: u32, pages: &mut [Page<Sums>], call: Call) -> Result<u8, Fault> {
-    let mut other = [BLANK];
-    let bench = bench_for(n, &mut other)?;
+// Makes one call: the verdict on the lot that it closed, or the bench, and the number where it was refused.
+fn told<M: Method<Reading = i32, Numbers = Sums> + Copy>(
+    bench: Bench<M>,
+    pages: &mut [Page<Sums>],
+    call: Call<i32>,
+) -> Result<Verdict, (Bench<M>, Option<u8>)> {
     let answer = match call {
         Call::Open(name) => bench.open(pages, name),
         Call::Read(name, reading) => bench.read(pages, name, reading),
         Call::Strike(name) => bench.strike(pages, name),
         Call::Pour(source, goal) => bench.pour(pages, source, goal),
-        Call::Close => return Ok(number(judged(bench, pages))),
+        Call::Close => {
+            return match bench.close(pages) {
+                Ok(lot) => {
+                    let verdict = lot.judge();
+                    let _ = lot.into_method();
+                    Ok(verdict)
+                }
+                Err((fault, bench)) => Err((bench, Some(fault.number()))),
+            };
+        }
     };
-    let _ = bench.into_method();
-    Ok(number(answer))
+    Err((bench, refusal(answer)))
 }
 
-// The call on the row, which the words tell of, is refused by the number, and leaves the row as it was.
-fn refused_row<const K: usize>(
+// The calls are answered as it stands beside them; the verdict, where one of them closes the lot.
+fn answered<M: Method<Reading = i32, Numbers = Sums> + Copy>(
     rt: &impl Abort,
+    mut bench: Bench<M>,
+    pages: &mut [Page<Sums>],
+    calls: &[(Call<i32>, Option<u8>)],
+    what: &str,
+) -> Option<Verdict> {
+    for (call, expected) in calls {
+        match told(bench, pages, *call) {
+            Ok(verdict) => {
+                assert_eq!(rt; None, *expected, "{}", what);
+                return Some(verdict);
+            }
+            Err((back, answer)) => {
+                assert_eq!(rt; answer, *expected, "{}", what);
+                bench = back;
+            }
+        }
+    }
+    let _ = bench.into_method();
+    None
+}
+
+// A bench is set up on the row, or is refused by the number; and the other row is left.
+fn set_up_under<M: Method<Reading = i32, Numbers = Sums> + Copy, const K: usize>(
+    rt: &impl Abort,
+    method: M,
     n: u32,
     row: [Page<Sums>; K],
-    call: Call,
-    expected: u8,
+    expected: Option<u8>,
+    after: [Page<Sums>; K],
+) {
+    let mut pages = row;
+    let answer = match set_up(method, n, &mut pages) {
+        Ok(bench) => Ok(bench.into_method()),
+        Err(fault) => Err(fault),
+    };
+    assert_eq!(rt; refusal(answer), expected);
+    assert_eq!(rt; pages, after);
+}
+
+// A bench that is set up on the row answers the calls as it stands beside them, and leaves the other row.
+fn past_under<M: Method<Reading = i32, Numbers = Sums> + Copy, const K: usize>(
+    rt: &impl Abort,
+    method: M,
+    n: u32,
+    row: [Page<Sums>; K],
+    calls: &[(Call<i32>, Option<u8>)],
+    after: [Page<Sums>; K],
+    verdict: Verdict,
+) -> Result<(), Fail> {
+    let mut pages = row;
+    let bench = set_up(method, n, &mut pages)?;
+    assert_eq!(rt;
+        answered(rt, bench, &mut pages, calls, "a past"),
+        Some(verdict)
+    );
+    assert_eq!(rt; pages, after);
+    Ok(())
+}
+
+// A bench that is set up elsewhere answers the call on the row, which the words tell of, and leaves the other row.
+fn call_under<M: Method<Reading = i32, Numbers = Sums> + Copy, const K: usize>(
+    rt: &impl Abort,
+    method: M,
+    n: u32,
+    row: [Page<Sums>; K],
+    call: (Call<i32>, Option<u8>),
+    after: [Page<Sums>; K],
     what: &str,
 ) -> Result<(), Fail> {
     let mut pages = row;
-    assert_eq!(rt; told(n, &mut pages, call)?, expected, "{}", what);
-    assert!(rt; same(&pages, &row), "{}", what);
+    let bench = set_up(method, n, &mut [BLANK])?;
+    let _ = answered(rt, bench, &mut pages, &[call], what);
+    assert_eq!(rt; pages, after, "{}", what);
     Ok(())
+}
+
+// The same, under both methods.
+fn set_up_on<const K: usize>(
+    rt: &impl Abort,
+    n: u32,
+    row: [Page<Sums>; K],
+    expected: Option<u8>,
+    after: [Page<Sums>; K],
+) -> Result<(), Fail> {
+    set_up_under(rt, by_itself()?, n, row, expected, after);
+    set_up_under(rt, by_criterion()?, n, row, expected, after);
+    Ok(())
+}
+
+fn past<const K: usize>(
+    rt: &impl Abort,
+    n: u32,
+    row: [Page<Sums>; K],
+    calls: &[(Call<i32>, Option<u8>)],
+    after: [Page<Sums>; K],
+    verdict: Verdict,
+) -> Result<(), Fail> {
+    past_under(rt, by_itself()?, n, row, calls, after, verdict)?;
+    past_under(rt, by_criterion()?, n, row, calls, after, verdict)
+}
+
+fn call_on<const K: usize>(
+    rt: &impl Abort,
+    n: u32,
+    row: [Page<Sums>; K],
+    call: (Call<i32>, Option<u8>),
+    after: [Page<Sums>; K],
+    what: &str,
+) -> Result<(), Fail> {
+    call_under(rt, by_itself()?, n, row, call, after, what)?;
+    call_under(rt, by_criterion()?, n, row, call, after, what)
+}
+
+// Setting a bench up is refused by the number, and leaves the row as it was.
+fn not_set_up<const K: usize>(
+    rt: &impl Abort,
+    n: u32,
+    row: [Page<Sums>; K],
+    expected: u8,
+) -> Result<(), Fail> {
+    set_up_on(rt, n, row, Some(expected), row)
+}
+
+// A bench is set up, and blanks the row.
+fn is_set_up<const K: usize>(rt: &impl Abort, n: u32, row: [Page<Sums>; K]) -> Result<(), Fail> {
+    set_up_on(rt, n, row, None, [BLANK; K])
 }
 
 // The call is refused by the number, and leaves the row as it was.
@@ -117,13 +204,13 @@ fn refused<const K: usize>(
     rt: &impl Abort,
     n: u32,
     row: [Page<Sums>; K],
-    call: Call,
+    call: Call<i32>,
     expected: u8,
 ) -> Result<(), Fail> {
-    refused_row(rt, n, row, call, expected, "this row")
+    call_on(rt, n, row, (call, Some(expected)), row, "this row")
 }
 
-// Every call on the row is refused by the number.
+// Every call on the row, which the words tell of, is refused by the number.
 fn all_refused<const K: usize>(
     rt: &impl Abort,
     n: u32,
@@ -131,14 +218,19 @@ fn all_refused<const K: usize>(
     expected: u8,
     what: &str,
 ) -> Result<(), Fail> {
-    refused_row(rt, n, row, Call::Open(0), expected, what)?;
-    refused_row(rt, n, row, Call::Open(9), expected, what)?;
-    refused_row(rt, n, row, Call::Read(1, 2001), expected, what)?;
-    refused_row(rt, n, row, Call::Read(1, 5), expected, what)?;
-    refused_row(rt, n, row, Call::Strike(1), expected, what)?;
-    refused_row(rt, n, row, Call::Pour(1, 2), expected, what)?;
-    refused_row(rt, n, row, Call::Pour(1, 1), expected, what)?;
-    refused_row(rt, n, row, Call::Close, expected, what)
+    for call in [
+        Call::Open(0),
+        Call::Open(9),
+        Call::Read(1, 2001),
+        Call::Read(1, 5),
+        Call::Strike(1),
+        Call::Pour(1, 2),
+        Call::Pour(1, 1),
+        Call::Close,
+    ] {
+        call_on(rt, n, row, (call, Some(expected)), row, what)?;
+    }
+    Ok(())
 }
 
 // The call is granted, and leaves the other row.
@@ -146,86 +238,49 @@ fn granted<const K: usize>(
     rt: &impl Abort,
     n: u32,
     row: [Page<Sums>; K],
-    call: Call,
+    call: Call<i32>,
     after: [Page<Sums>; K],
 ) -> Result<(), Fail> {
-    let mut pages = row;
-    assert_eq!(rt; told(n, &mut pages, call)?, 0);
-    assert!(rt; same(&pages, &after));
-    Ok(())
-}
-
-fn not_set_up<const K: usize>(
-    rt: &impl Abort,
-    n: u32,
-    row: [Page<Sums>; K],
-    expected: u8,
-) -> Result<(), Fail> {
-    let mut pages = row;
-    match bench_for(n, &mut pages) {
-        Ok(bench) => {
-            let _ = bench.into_method();
-            Err(Fail::new("set up"))
-        }
-        Err(fault) => {
-            assert_eq!(rt; fault.number(), expected);
-            assert!(rt; same(&pages, &row));
-            Ok(())
-        }
-    }
-}
-
-fn is_set_up<const K: usize>(rt: &impl Abort, n: u32, row: [Page<Sums>; K]) -> Result<(), Fail> {
-    let mut pages = row;
-    let _ = bench_for(n, &mut pages)?.into_method();
-    assert!(rt; same(&pages, &[BLANK; K]));
-    Ok(())
+    call_on(rt, n, row, (call, None), after, "this row")
 }
 
 #[test]
 fn a_struck_reading_does_not_count(rt: HostRuntime) -> Result<(), Fail> {
-    let mut pages = [five(9); 3];
-    let bench = bench_for(2, &mut pages)?;
-    let opened = (
-        number(bench.open(&mut pages, 1)),
-        number(bench.open(&mut pages, 2)),
-    );
-    let first = number(bench.read(&mut pages, 1, 5));
-    let second = number(bench.read(&mut pages, 2, 9));
-    let third = number(bench.read(&mut pages, 2, 7));
-    let struck = number(bench.strike(&mut pages, 1));
-    let last = number(bench.read(&mut pages, 2, 7));
-    let verdict = judged(bench, &pages)?;
-    assert_eq!(rt; opened, (0, 0));
-    assert_eq!(rt; (first, second, third), (0, 0, 16));
-    assert_eq!(rt; (struck, last), (0, 0));
-    assert!(rt; same(&pages, &[page(2, 2, 16, 130), BLANK, BLANK]));
-    assert!(rt; !verdict);
-    Ok(())
+    past(
+        &rt,
+        2,
+        [five(9); 3],
+        &[
+            (Call::Open(1), None),
+            (Call::Open(2), None),
+            (Call::Read(1, 5), None),
+            (Call::Read(2, 9), None),
+            (Call::Read(2, 7), Some(16)),
+            (Call::Strike(1), None),
+            (Call::Read(2, 7), None),
+            (Call::Close, None),
+        ],
+        [page(2, 2, 16, 130), BLANK, BLANK],
+        Verdict::NotAccepted,
+    )
 }
 
 #[test]
 fn a_bench_that_is_not_closed_goes_on(rt: HostRuntime) -> Result<(), Fail> {
-    let mut pages = [BLANK; 1];
-    let bench = bench_for(2, &mut pages)?;
-    let opened = number(bench.open(&mut pages, 7));
-    let first = number(bench.read(&mut pages, 7, 12));
-    match bench.close(&pages) {
-        Ok(lot) => {
-            let _ = lot.into_method();
-            Err(Fail::new("closed"))
-        }
-        Err(refusal) => {
-            let (fault, bench) = refusal;
-            let last = number(bench.read(&mut pages, 7, 8));
-            let verdict = judged(bench, &pages)?;
-            assert_eq!(rt; fault.number(), 17);
-            assert_eq!(rt; (opened, first, last), (0, 0, 0));
-            assert!(rt; same(&pages, &[page(7, 2, 20, 208)]));
-            assert!(rt; verdict);
-            Ok(())
-        }
-    }
+    past(
+        &rt,
+        2,
+        [BLANK],
+        &[
+            (Call::Open(7), None),
+            (Call::Read(7, 12), None),
+            (Call::Close, Some(17)),
+            (Call::Read(7, 8), None),
+            (Call::Close, None),
+        ],
+        [page(7, 2, 20, 208)],
+        Verdict::Accepted,
+    )
 }
 
 #[test]
@@ -373,22 +428,21 @@ fn pouring(rt: HostRuntime) -> Result<(), Fail> {
 
 #[test]
 fn drums_poured_together_are_closed(rt: HostRuntime) -> Result<(), Fail> {
-    let mut pages = [BLANK; 3];
-    let bench = bench_for(3, &mut pages)?;
-    let opened = (
-        number(bench.open(&mut pages, 1)),
-        number(bench.open(&mut pages, 2)),
-    );
-    let first = number(bench.read(&mut pages, 1, 9));
-    let second = number(bench.read(&mut pages, 2, 10));
-    let poured = number(bench.pour(&mut pages, 1, 2));
-    let gone = number(bench.read(&mut pages, 1, 11));
-    let third = number(bench.read(&mut pages, 2, 11));
-    let verdict = judged(bench, &pages)?;
-    assert_eq!(rt; opened, (0, 0));
-    assert_eq!(rt; (first, second, third), (0, 0, 0));
-    assert_eq!(rt; (poured, gone), (0, 12));
-    assert!(rt; same(&pages, &[page(2, 3, 30, 302), BLANK, BLANK]));
-    assert!(rt; verdict);
-    Ok(())
+    past(
+        &rt,
+        3,
+        [BLANK; 3],
+        &[
+            (Call::Open(1), None),
+            (Call::Open(2), None),
+            (Call::Read(1, 9), None),
+            (Call::Read(2, 10), None),
+            (Call::Pour(1, 2), None),
+            (Call::Read(1, 11), Some(12)),
+            (Call::Read(2, 11), None),
+            (Call::Close, None),
+        ],
+        [page(2, 3, 30, 302), BLANK, BLANK],
+        Verdict::Accepted,
+    )
 }

@@ -1,4 +1,5 @@
 // The methods and the layers, called without a bench: examples on and beside the limit, and their own refusals.
+use crate::refusal::refusal;
 use attributes::marks::Marks;
 use attributes::tally::MarkTally;
 use criteria::known::Known;
@@ -18,10 +19,9 @@ use variables::tally::Tally;
 // Whether the readings are accepted, entered one by one into a tally.
 fn accepts<C: Criterion + Drop>(criterion: C, readings: &[i32]) -> Result<bool, Fault> {
     let method = Variables { criterion };
-    let mut tally = method.blank();
-    for r in readings {
-        tally = method.enter(tally, *r)?;
-    }
+    let tally = readings
+        .iter()
+        .try_fold(method.blank(), |tally, r| method.enter(tally, *r))?;
     Ok(method.verdict(tally).is_yes())
 }
 
@@ -31,31 +31,17 @@ fn passes(most: i32, marks: &[bool]) -> Result<bool, Fault> {
 }
 
 fn tally_of(marks: &[bool]) -> Result<MarkTally, Fault> {
-    let mut tally = MarkTally::blank();
-    for conforms in marks {
-        tally = tally.enter(*conforms)?;
-    }
-    Ok(tally)
+    marks.iter().try_fold(MarkTally::blank(), |tally, conforms| tally.enter(*conforms))
 }
 
 fn sum_of(readings: &[i32]) -> Result<Tally, Fault> {
-    let mut tally = Tally::blank();
-    for r in readings {
-        tally = tally.enter(*r)?;
-    }
-    Ok(tally)
+    readings
+        .iter()
+        .try_fold(Tally::blank(), |tally, r| tally.enter(*r))
 }
 
 fn difference(first: i32, second: i32) -> Option<i32> {
     Difference.pass(Pair { first, second })
-}
-
-// The number of the refusal, or 0.
-fn refusal<T: Drop>(answer: Result<T, Fault>) -> u8 {
-    match answer {
-        Ok(_) => 0,
-        Err(fault) => fault.number(),
-    }
 }
 
 #[test]
@@ -74,28 +60,28 @@ fn criteria_on_and_beside_the_limit(rt: HostRuntime) -> Result<(), Fail> {
 
 #[test]
 fn tallies_of_at_most_50(rt: HostRuntime) {
-    assert_eq!(rt; refusal(sum_of(&[0, 2001])), 14);
-    assert_eq!(rt; refusal(sum_of(&[7; 50])), 0);
-    assert_eq!(rt; refusal(sum_of(&[7; 51])), 16);
-    assert_eq!(rt; refusal(tally_of(&[true; 50])), 0);
-    assert_eq!(rt; refusal(tally_of(&[true; 51])), 16);
+    assert_eq!(rt; refusal(sum_of(&[0, 2001])), Some(14));
+    assert_eq!(rt; refusal(sum_of(&[7; 50])), None);
+    assert_eq!(rt; refusal(sum_of(&[7; 51])), Some(16));
+    assert_eq!(rt; refusal(tally_of(&[true; 50])), None);
+    assert_eq!(rt; refusal(tally_of(&[true; 51])), Some(16));
 }
 
 #[test]
 fn constants_out_of_range(rt: HostRuntime) {
-    assert_eq!(rt; refusal(Known::new(2001, 0, 0)), 5);
-    assert_eq!(rt; refusal(Known::new(0, -1, 0)), 5);
-    assert_eq!(rt; refusal(Known::new(0, 2001, 0)), 5);
-    assert_eq!(rt; refusal(Known::new(0, 0, 4001)), 5);
-    assert_eq!(rt; refusal(Unknown::new(-2001, 0)), 5);
-    assert_eq!(rt; refusal(Unknown::new(0, -1)), 5);
-    assert_eq!(rt; refusal(Mean::new(2, 2001)), 5);
-    assert_eq!(rt; refusal(Marks::new(-1)), 5);
-    assert_eq!(rt; refusal(Marks::new(50)), 5);
-    assert_eq!(rt; refusal(Gauge::new(2000, 2000)), 0);
-    assert_eq!(rt; refusal(Gauge::new(-2001, 0)), 5);
-    assert_eq!(rt; refusal(Gauge::new(0, 2001)), 5);
-    assert_eq!(rt; refusal(Gauge::new(1, 0)), 5);
+    assert_eq!(rt; refusal(Known::new(2001, 0, 0)), Some(5));
+    assert_eq!(rt; refusal(Known::new(0, -1, 0)), Some(5));
+    assert_eq!(rt; refusal(Known::new(0, 2001, 0)), Some(5));
+    assert_eq!(rt; refusal(Known::new(0, 0, 4001)), Some(5));
+    assert_eq!(rt; refusal(Unknown::new(-2001, 0)), Some(5));
+    assert_eq!(rt; refusal(Unknown::new(0, -1)), Some(5));
+    assert_eq!(rt; refusal(Mean::new(2, 2001)), Some(5));
+    assert_eq!(rt; refusal(Marks::new(-1)), Some(5));
+    assert_eq!(rt; refusal(Marks::new(50)), Some(5));
+    assert_eq!(rt; refusal(Gauge::new(2000, 2000)), None);
+    assert_eq!(rt; refusal(Gauge::new(-2001, 0)), Some(5));
+    assert_eq!(rt; refusal(Gauge::new(0, 2001)), Some(5));
+    assert_eq!(rt; refusal(Gauge::new(1, 0)), Some(5));
 }
 
 #[test]
