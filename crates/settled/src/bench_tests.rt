@@ -8,10 +8,19 @@ use method::Method;
 use method::verdict::Verdict;
 use past::Call;
 use rows::Page;
+use std::ops::ControlFlow;
 use std::process::Abort;
 use std::test::Fail;
 use variables::inspection::Variables;
 use variables::sums::Sums;
+
+// A method on readings.
+trait OnReadings: Method<Reading = i32, Numbers = Sums> + Copy {}
+
+impl<M: Method<Reading = i32, Numbers = Sums> + Copy> OnReadings for M {}
+
+// A call of a bench, and the number by which it is refused, where it is.
+type Asked = (Call<i32>, Option<u8>);
 
 // The methods that each of these tests is run for: both accept a lot whose mean is 10 or more.
 fn by_itself() -> Result<variables::unknown::Unknown, Fault> {
@@ -35,20 +44,12 @@ fn five(name: u32) -> Page<Sums> {
     page(name, 1, 5, 25)
 }
 
-fn set_up<M: Method<Reading = i32, Numbers = Sums> + Copy>(
-    method: M,
-    n: u32,
-    pages: &mut [Page<Sums>],
-) -> Result<Bench<M>, Fault> {
-    Bench::set_up(method, n, pages).map_err(|(fault, _)| fault)
-}
-
 // Makes one call: the verdict on the lot that it closed, or the bench, and the number where it was refused.
-fn told<M: Method<Reading = i32, Numbers = Sums> + Copy>(
+fn told<M: OnReadings>(
     bench: Bench<M>,
     pages: &mut [Page<Sums>],
     call: Call<i32>,
-) -> Result<Verdict, (Bench<M>, Option<u8>)> {
+) -> ControlFlow<Verdict, (Bench<M>, Option<u8>)> {
     let answer = match call {
         Call::Open(name) => bench.open(pages, name),
         Call::Read(name, reading) => bench.read(pages, name, reading),
@@ -59,30 +60,30 @@ fn told<M: Method<Reading = i32, Numbers = Sums> + Copy>(
                 Ok(lot) => {
                     let verdict = lot.judge();
                     let _ = lot.into_method();
-                    Ok(verdict)
+                    ControlFlow::Break(verdict)
                 }
-                Err((fault, bench)) => Err((bench, Some(fault.number()))),
+                Err((fault, bench)) => ControlFlow::Continue((bench, Some(fault.number()))),
             };
         }
     };
-    Err((bench, refusal(answer)))
+    ControlFlow::Continue((bench, refusal(answer)))
 }
 
-// The calls are answered as it stands beside them; the verdict, where one of them closes the lot.
-fn answered<M: Method<Reading = i32, Numbers = Sums> + Copy>(
+// The calls are answered as it stands beside them; the verdict, where the last of them closes the lot.
+fn answered<M: OnReadings>(
     rt: &impl Abort,
     mut bench: Bench<M>,
     pages: &mut [Page<Sums>],
-    calls: &[(Call<i32>, Option<u8>)],
+    calls: &[Asked],
     what: &str,
 ) -> Option<Verdict> {
     for (call, expected) in calls {
         match told(bench, pages, *call) {
-            Ok(verdict) => {
+            ControlFlow::Break(verdict) => {
                 assert_eq!(rt; None, *expected, "{}", what);
                 return Some(verdict);
             }
-            Err((back, answer)) => {
+            ControlFlow::Continue((back, answer)) => {
                 assert_eq!(rt; answer, *expected, "{}", what);
                 bench = back;
             }
@@ -92,96 +93,68 @@ fn answered<M: Method<Reading = i32, Numbers = Sums> + Copy>(
     None
 }
 
-// A bench is set up on the row, or is refused by the number; and the other row is left.
-fn set_up_under<M: Method<Reading = i32, Numbers = Sums> + Copy, const K: usize>(
+// A bench that is set up on the row answers the calls as it stands beside them, and leaves the other row. It comes to
+// the number by which setting up is refused, or to the verdict, where a lot is closed.
+fn past_under<M: OnReadings, const K: usize>(
     rt: &impl Abort,
     method: M,
     n: u32,
     row: [Page<Sums>; K],
-    expected: Option<u8>,
+    calls: &[Asked],
     after: [Page<Sums>; K],
+    came: Result<Option<Verdict>, u8>,
 ) {
     let mut pages = row;
-    let answer = match set_up(method, n, &mut pages) {
-        Ok(bench) => Ok(bench.into_method()),
-        Err(fault) => Err(fault),
+    let answer = match Bench::set_up(method, n, &mut pages) {
+        Ok(bench) => Ok(answered(rt, bench, &mut pages, calls, "a past")),
+        Err((fault, _)) => Err(fault.number()),
     };
-    assert_eq!(rt; refusal(answer), expected);
+    assert_eq!(rt; answer, came);
     assert_eq!(rt; pages, after);
-}
-
-// A bench that is set up on the row answers the calls as it stands beside them, and leaves the other row.
-fn past_under<M: Method<Reading = i32, Numbers = Sums> + Copy, const K: usize>(
-    rt: &impl Abort,
-    method: M,
-    n: u32,
-    row: [Page<Sums>; K],
-    calls: &[(Call<i32>, Option<u8>)],
-    after: [Page<Sums>; K],
-    verdict: Verdict,
-) -> Result<(), Fail> {
-    let mut pages = row;
-    let bench = set_up(method, n, &mut pages)?;
-    assert_eq!(rt;
-        answered(rt, bench, &mut pages, calls, "a past"),
-        Some(verdict)
-    );
-    assert_eq!(rt; pages, after);
-    Ok(())
 }
 
 // A bench that is set up elsewhere answers the call on the row, which the words tell of, and leaves the other row.
-fn call_under<M: Method<Reading = i32, Numbers = Sums> + Copy, const K: usize>(
+fn call_under<M: OnReadings, const K: usize>(
     rt: &impl Abort,
     method: M,
     n: u32,
     row: [Page<Sums>; K],
-    call: (Call<i32>, Option<u8>),
+    asked: Asked,
     after: [Page<Sums>; K],
     what: &str,
 ) -> Result<(), Fail> {
     let mut pages = row;
-    let bench = set_up(method, n, &mut [BLANK])?;
-    let _ = answered(rt, bench, &mut pages, &[call], what);
+    let bench = Bench::set_up(method, n, &mut [BLANK]).map_err(|(fault, _)| fault)?;
+    let _ = answered(rt, bench, &mut pages, &[asked], what);
     assert_eq!(rt; pages, after, "{}", what);
     Ok(())
 }
 
-// The same, under both methods.
-fn set_up_on<const K: usize>(
-    rt: &impl Abort,
-    n: u32,
-    row: [Page<Sums>; K],
-    expected: Option<u8>,
-    after: [Page<Sums>; K],
-) -> Result<(), Fail> {
-    set_up_under(rt, by_itself()?, n, row, expected, after);
-    set_up_under(rt, by_criterion()?, n, row, expected, after);
-    Ok(())
-}
-
+// The past comes to the same under both methods.
 fn past<const K: usize>(
     rt: &impl Abort,
     n: u32,
     row: [Page<Sums>; K],
-    calls: &[(Call<i32>, Option<u8>)],
+    calls: &[Asked],
     after: [Page<Sums>; K],
-    verdict: Verdict,
+    came: Result<Option<Verdict>, u8>,
 ) -> Result<(), Fail> {
-    past_under(rt, by_itself()?, n, row, calls, after, verdict)?;
-    past_under(rt, by_criterion()?, n, row, calls, after, verdict)
+    past_under(rt, by_itself()?, n, row, calls, after, came);
+    past_under(rt, by_criterion()?, n, row, calls, after, came);
+    Ok(())
 }
 
+// The call is answered alike under both methods.
 fn call_on<const K: usize>(
     rt: &impl Abort,
     n: u32,
     row: [Page<Sums>; K],
-    call: (Call<i32>, Option<u8>),
+    asked: Asked,
     after: [Page<Sums>; K],
     what: &str,
 ) -> Result<(), Fail> {
-    call_under(rt, by_itself()?, n, row, call, after, what)?;
-    call_under(rt, by_criterion()?, n, row, call, after, what)
+    call_under(rt, by_itself()?, n, row, asked, after, what)?;
+    call_under(rt, by_criterion()?, n, row, asked, after, what)
 }
 
 // Setting a bench up is refused by the number, and leaves the row as it was.
@@ -191,12 +164,12 @@ fn not_set_up<const K: usize>(
     row: [Page<Sums>; K],
     expected: u8,
 ) -> Result<(), Fail> {
-    set_up_on(rt, n, row, Some(expected), row)
+    past(rt, n, row, &[], row, Err(expected))
 }
 
 // A bench is set up, and blanks the row.
 fn is_set_up<const K: usize>(rt: &impl Abort, n: u32, row: [Page<Sums>; K]) -> Result<(), Fail> {
-    set_up_on(rt, n, row, None, [BLANK; K])
+    past(rt, n, row, &[], [BLANK; K], Ok(None))
 }
 
 // The call is refused by the number, and leaves the row as it was.
@@ -261,7 +234,7 @@ fn a_struck_reading_does_not_count(rt: HostRuntime) -> Result<(), Fail> {
             (Call::Close, None),
         ],
         [page(2, 2, 16, 130), BLANK, BLANK],
-        Verdict::NotAccepted,
+        Ok(Some(Verdict::NotAccepted)),
     )
 }
 
@@ -279,7 +252,7 @@ fn a_bench_that_is_not_closed_goes_on(rt: HostRuntime) -> Result<(), Fail> {
             (Call::Close, None),
         ],
         [page(7, 2, 20, 208)],
-        Verdict::Accepted,
+        Ok(Some(Verdict::Accepted)),
     )
 }
 
@@ -443,6 +416,6 @@ fn drums_poured_together_are_closed(rt: HostRuntime) -> Result<(), Fail> {
             (Call::Close, None),
         ],
         [page(2, 3, 30, 302), BLANK, BLANK],
-        Verdict::Accepted,
+        Ok(Some(Verdict::Accepted)),
     )
 }

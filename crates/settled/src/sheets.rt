@@ -84,25 +84,22 @@ pub fn sheet_of(heap: Global, entries: &str) -> Result<Vec<u8>, Fail> {
     Ok(sheet)
 }
 
-fn told(fault: Fault) -> (u8, u16) {
+fn number_and_entry(fault: Fault) -> (u8, u16) {
     (fault.number(), fault.entry())
 }
 
 // What the sheet comes to under the plan U alone.
 fn under_u(heap: Global, sheet: &[u8]) -> Came {
-    match carry::carry(heap, sheet) {
-        Ok(Outcome::Judged(report)) => Ok(Some(report.verdict)),
-        Ok(Outcome::NotYet(_)) => Ok(None),
-        Err(fault) => Err(told(fault)),
+    match carry::carry(heap, sheet).map_err(number_and_entry)? {
+        Outcome::Judged(report) => Ok(Some(report.verdict)),
+        Outcome::NotYet(_) => Ok(None),
     }
 }
 
 // What the sheet comes to on a bench with blank rows.
 fn on_a_bench(sheet: &[u8]) -> Came {
-    match Rows::blank().carry(sheet) {
-        Ok(lot) => Ok(Some(lot.verdict)),
-        Err(fault) => Err(told(fault)),
-    }
+    let lot = Rows::blank().carry(sheet).map_err(number_and_entry)?;
+    Ok(Some(lot.verdict))
 }
 
 // The sheet, which the words tell of, comes to the same both ways.
