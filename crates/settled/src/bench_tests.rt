@@ -3,33 +3,26 @@
 use crate::refusal::refusal;
 use crate::sheets::BLANK;
 use bench::Bench;
+use criteria::unknown::Unknown;
 use fault::Fault;
-use method::Method;
+use inspection::Inspection;
 use method::verdict::Verdict;
 use past::Call;
 use rows::Page;
 use std::ops::ControlFlow;
 use std::process::Abort;
 use std::test::Fail;
-use variables::inspection::Variables;
 use variables::sums::Sums;
-
-// A method on readings.
-trait OnReadings: Method<Reading = i32, Numbers = Sums> + Copy {}
-
-impl<M: Method<Reading = i32, Numbers = Sums> + Copy> OnReadings for M {}
 
 // A call of a bench, and the number by which it is refused, where it is.
 type Asked = (Call<i32>, Option<u8>);
 
-// The methods that each of these tests is run for: both accept a lot whose mean is 10 or more.
-fn by_itself() -> Result<variables::unknown::Unknown, Fault> {
-    variables::unknown::Unknown::new(10, 0)
-}
+// The method that these tests are run for: it accepts a lot whose mean is 10 or more.
+type Tried = Inspection<Unknown>;
 
-fn by_criterion() -> Result<Variables<criteria::unknown::Unknown>, Fault> {
-    let criterion = criteria::unknown::Unknown::new(10, 0)?;
-    Ok(Variables { criterion })
+fn tried() -> Result<Tried, Fault> {
+    let criterion = Unknown::new(10, 0)?;
+    Ok(Inspection { criterion })
 }
 
 fn page(name: u32, n: u32, s: i64, q: u64) -> Page<Sums> {
@@ -45,11 +38,11 @@ fn five(name: u32) -> Page<Sums> {
 }
 
 // Makes one call: the verdict on the lot that it closed, or the bench, and the number where it was refused.
-fn told<M: OnReadings>(
-    bench: Bench<M>,
+fn told(
+    bench: Bench<Tried>,
     pages: &mut [Page<Sums>],
     call: Call<i32>,
-) -> ControlFlow<Verdict, (Bench<M>, Option<u8>)> {
+) -> ControlFlow<Verdict, (Bench<Tried>, Option<u8>)> {
     let answer = match call {
         Call::Open(name) => bench.open(pages, name),
         Call::Read(name, reading) => bench.read(pages, name, reading),
@@ -70,9 +63,9 @@ fn told<M: OnReadings>(
 }
 
 // The calls are answered as it stands beside them; the verdict, where the last of them closes the lot.
-fn answered<M: OnReadings>(
+fn answered(
     rt: &impl Abort,
-    mut bench: Bench<M>,
+    mut bench: Bench<Tried>,
     pages: &mut [Page<Sums>],
     calls: &[Asked],
     what: &str,
@@ -95,42 +88,6 @@ fn answered<M: OnReadings>(
 
 // A bench that is set up on the row answers the calls as it stands beside them, and leaves the other row. It comes to
 // the number by which setting up is refused, or to the verdict, where a lot is closed.
-fn past_under<M: OnReadings, const K: usize>(
-    rt: &impl Abort,
-    method: M,
-    n: u32,
-    row: [Page<Sums>; K],
-    calls: &[Asked],
-    after: [Page<Sums>; K],
-    came: Result<Option<Verdict>, u8>,
-) {
-    let mut pages = row;
-    let answer = match Bench::set_up(method, n, &mut pages) {
-        Ok(bench) => Ok(answered(rt, bench, &mut pages, calls, "a past")),
-        Err((fault, _)) => Err(fault.number()),
-    };
-    assert_eq!(rt; answer, came);
-    assert_eq!(rt; pages, after);
-}
-
-// A bench that is set up elsewhere answers the call on the row, which the words tell of, and leaves the other row.
-fn call_under<M: OnReadings, const K: usize>(
-    rt: &impl Abort,
-    method: M,
-    n: u32,
-    row: [Page<Sums>; K],
-    asked: Asked,
-    after: [Page<Sums>; K],
-    what: &str,
-) -> Result<(), Fail> {
-    let mut pages = row;
-    let bench = Bench::set_up(method, n, &mut [BLANK]).map_err(|(fault, _)| fault)?;
-    let _ = answered(rt, bench, &mut pages, &[asked], what);
-    assert_eq!(rt; pages, after, "{}", what);
-    Ok(())
-}
-
-// The past comes to the same under both methods.
 fn past<const K: usize>(
     rt: &impl Abort,
     n: u32,
@@ -139,12 +96,17 @@ fn past<const K: usize>(
     after: [Page<Sums>; K],
     came: Result<Option<Verdict>, u8>,
 ) -> Result<(), Fail> {
-    past_under(rt, by_itself()?, n, row, calls, after, came);
-    past_under(rt, by_criterion()?, n, row, calls, after, came);
+    let mut pages = row;
+    let answer = match Bench::set_up(tried()?, n, &mut pages) {
+        Ok(bench) => Ok(answered(rt, bench, &mut pages, calls, "a past")),
+        Err((fault, _)) => Err(fault.number()),
+    };
+    assert_eq!(rt; answer, came);
+    assert_eq!(rt; pages, after);
     Ok(())
 }
 
-// The call is answered alike under both methods.
+// A bench that is set up elsewhere answers the call on the row, which the words tell of, and leaves the other row.
 fn call_on<const K: usize>(
     rt: &impl Abort,
     n: u32,
@@ -153,8 +115,11 @@ fn call_on<const K: usize>(
     after: [Page<Sums>; K],
     what: &str,
 ) -> Result<(), Fail> {
-    call_under(rt, by_itself()?, n, row, asked, after, what)?;
-    call_under(rt, by_criterion()?, n, row, asked, after, what)
+    let mut pages = row;
+    let bench = Bench::set_up(tried()?, n, &mut [BLANK]).map_err(|(fault, _)| fault)?;
+    let _ = answered(rt, bench, &mut pages, &[asked], what);
+    assert_eq!(rt; pages, after, "{}", what);
+    Ok(())
 }
 
 // Setting a bench up is refused by the number, and leaves the row as it was.

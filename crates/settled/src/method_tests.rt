@@ -6,38 +6,36 @@ use criteria::known::Known;
 use criteria::mean::Mean;
 use criteria::unknown::Unknown;
 use fault::Fault;
+use inspection::Inspection;
+use inspection::criterion::Criterion;
+use inspection::tallying::Tallying;
 use method::Method;
 use std::test::Fail;
 use through::difference::{Difference, Pair};
 use through::gauge::Gauge;
 use through::negation::Negation;
 use through::passing::Passing;
-use variables::criterion::Criterion;
-use variables::inspection::Variables;
 use variables::tally::Tally;
 
-// Whether the readings are accepted, entered one by one into a tally.
-fn accepts<C: Criterion + Drop>(criterion: C, readings: &[i32]) -> Result<bool, Fault> {
-    let method = Variables { criterion };
-    let tally = readings
-        .iter()
-        .try_fold(method.blank(), |tally, r| method.enter(tally, *r))?;
+// Whether the readings or marks are accepted, entered one by one into a tally.
+fn accepts<C: Criterion + Drop>(
+    criterion: C,
+    readings: &[<C::Tally as Tallying>::Reading],
+) -> Result<bool, Fault> {
+    let method = Inspection { criterion };
+    let mut tally = method.blank();
+    for r in readings {
+        tally = method.enter(tally, *r)?;
+    }
     Ok(method.verdict(tally).is_yes())
 }
 
-// Whether the marks are accepted.
-fn passes(most: i32, marks: &[bool]) -> Result<bool, Fault> {
-    Ok(Marks::new(most)?.judge(tally_of(marks)?).is_yes())
-}
-
-fn tally_of(marks: &[bool]) -> Result<MarkTally, Fault> {
-    marks.iter().try_fold(MarkTally::blank(), |tally, conforms| tally.enter(*conforms))
-}
-
-fn sum_of(readings: &[i32]) -> Result<Tally, Fault> {
-    readings
-        .iter()
-        .try_fold(Tally::blank(), |tally, r| tally.enter(*r))
+fn tally_of<T: Tallying>(readings: &[T::Reading]) -> Result<T, Fault> {
+    let mut tally = T::blank();
+    for r in readings {
+        tally = tally.enter(*r)?;
+    }
+    Ok(tally)
 }
 
 fn difference(first: i32, second: i32) -> Option<i32> {
@@ -53,18 +51,18 @@ fn criteria_on_and_beside_the_limit(rt: HostRuntime) -> Result<(), Fail> {
     assert!(rt; !accepts(Unknown::new(100, 1501)?, &close)?);
     assert!(rt; !accepts(Mean::new(4, 100)?, &close)?);
     assert!(rt; accepts(Mean::new(3, 0)?, &[2, 0, 1])?);
-    assert!(rt; passes(1, &[true, true, false, true, true])?);
-    assert!(rt; !passes(1, &[true, false, false, true, true])?);
+    assert!(rt; accepts(Marks::new(1)?, &[true, true, false, true, true])?);
+    assert!(rt; !accepts(Marks::new(1)?, &[true, false, false, true, true])?);
     Ok(())
 }
 
 #[test]
 fn tallies_of_at_most_50(rt: HostRuntime) {
-    assert_eq!(rt; refusal(sum_of(&[0, 2001])), Some(14));
-    assert_eq!(rt; refusal(sum_of(&[7; 50])), None);
-    assert_eq!(rt; refusal(sum_of(&[7; 51])), Some(16));
-    assert_eq!(rt; refusal(tally_of(&[true; 50])), None);
-    assert_eq!(rt; refusal(tally_of(&[true; 51])), Some(16));
+    assert_eq!(rt; refusal(tally_of::<Tally>(&[0, 2001])), Some(14));
+    assert_eq!(rt; refusal(tally_of::<Tally>(&[7; 50])), None);
+    assert_eq!(rt; refusal(tally_of::<Tally>(&[7; 51])), Some(16));
+    assert_eq!(rt; refusal(tally_of::<MarkTally>(&[true; 50])), None);
+    assert_eq!(rt; refusal(tally_of::<MarkTally>(&[true; 51])), Some(16));
 }
 
 #[test]
