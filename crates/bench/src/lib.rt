@@ -64,6 +64,7 @@ impl<M: Method> Bench<M> {
         Page { name: 0, numbers }
     }
 
+    // Each call is proved once on any pages, in a function of its own; the public one adds what the ledger says.
     fn open_page(&self, pages: &mut [Page<M::Numbers>], name: u32) -> Result<(), Fault>
         ensures { CarriedOut M.Method.stands (opened (M.Method.meaning self.now.method) M.Method.stands self.now.n name) pages.old pages.new result }
     {

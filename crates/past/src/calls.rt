@@ -10,6 +10,7 @@ use method::Method;
 use rows::Page;
 use std::ops::ControlFlow;
 
+// The calls are data and no closures: what is promised is said of every list of them.
 #[derive(Clone, Copy)]
 pub enum Call<R> {
     Open(u32),
