@@ -1,5 +1,5 @@
 -- A text is a number exactly when it is what printing that number gives.
-use Rattle.std.proofs.Common.{◌≡◌, ℕ, zero, suc, ◌+◌, ◌-◌, ◌*◌, ◌^◌, ◌<◌, ◌≤◌, Bool, true, false, cond, not, ◌&&◌, eqb, leb, List, [], ◌∷◌, length, get_or, drop, ℤ, pos, negsuc, neg_ℤ, Some, None, Ok, decimal, Option, sym, refl, ap, ◌∙◌, subst, arith, rules}
+use Rattle.std.proofs.Common.{◌≡◌, ℕ, zero, suc, ◌+◌, ◌-◌, ◌*◌, ◌^◌, ◌<◌, ◌≤◌, Bool, true, false, cond, not, ◌&&◌, eqb, leb, List, [], ◌∷◌, length, get_or, drop, ℤ, pos, negsuc, neg_ℤ, Some, None, Ok, decimal, Option, Result, sym, refl, ap, ◌∙◌, subst, arith, rules}
 use Rattle.std.proofs.lemmas.Bool.Decides.{nat_tests}
 use Rattle.std.proofs.lemmas.Str.Parse.{IsNumeralModel, numerals_by_fold, digits_value_short}
 use Rattle.std.proofs.lemmas.Fmt.{decimal-digits_value, digits_decimal, digits_value-decimal, length-decimal-le, decimal_nonempty, first_decimal, decimal_digit}
@@ -132,3 +132,6 @@ printed bs = record {
   reads = λ z h. to bs z _ _ refl refl (some_read (signed_of bs) (EntryForm 0) z h);
   prints = λ z e s. ap number_of e ∙ ap (λ o. ok_or o (EntryForm 0)) (from z s);
 }
+
+pub printed_from : (bs : List ℕ) (r : Result ℤ Fault) → r ≡ number_of bs → Printed bs r
+printed_from bs r e = subst (Printed bs) (sym e) (printed bs)

@@ -128,3 +128,6 @@ spelt bs = record {
   reads = λ x h. formed_reads bs x (sym (said_formed bs) ∙ h);
   spells = λ x e s. said_formed bs ∙ ap formed e ∙ formed_spells x s;
 }
+
+pub spelled_from : (bs : List ℕ) (r : Result Said Fault) → r ≡ said_of bs → Spelled bs r
+spelled_from bs r e = subst (Spelled bs) (sym e) (spelt bs)

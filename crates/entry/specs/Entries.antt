@@ -1,5 +1,5 @@
 -- What an entry says and which part of the sheet it is.
-use Rattle.std.specs.Prelude.{ℕ, List}
+use Rattle.std.specs.Prelude.{ℕ, List, ℤ}
 use Rattle.entry.specs.declared.kinds.Part.{Part}
 use Rattle.entry.specs.declared.kinds.Plan.{Plan}
 use Rattle.entry.specs.declared.kinds.Plan.TheVariants.{Known, Unknown, Window, Marks, Gauged, Mean, Paired}
@@ -17,6 +17,16 @@ letter_of (Marks n a) = 65
 letter_of (Gauged n l h a) = 71
 letter_of (Mean n m) = 84
 letter_of (Paired n) = 86
+
+-- the planned number of a plan, as it stands on the sheet
+abbrev pub planned_of : Plan → ℤ
+planned_of (Known n l s k) = n
+planned_of (Unknown n l k) = n
+planned_of (Window n l u k) = n
+planned_of (Marks n a) = n
+planned_of (Gauged n l h a) = n
+planned_of (Mean n m) = n
+planned_of (Paired n) = n
 
 -- a part of a sheet by what it holds, where it begins and which entry it is
 pub record Place : Type 0 where

@@ -1,6 +1,6 @@
 -- Which texts are numbers.
 use Rattle.std.specs.Prelude.{ℕ, zero, suc, ◌+◌, ◌-◌, ◌*◌, Bool, cond, not, ◌&&◌, List, [], ◌∷◌, length, ℤ, pos, neg_ℤ, Some, None, Ok, Option, Result, ◌==◌, nat_le, slice_index}
-use Rattle.std.specs.List.{between}
+use Rattle.std.specs.List.{after_first, before_first, between}
 use Rattle.std.specs.Option.{option_map, ok_or}
 use Rattle.fault.specs.Located.{then}
 use Rattle.fault.specs.declared.Fault.{Fault}
@@ -28,20 +28,11 @@ signed_of bs =
 abbrev pub number_of : List ℕ → Result ℤ Fault
 number_of bs = ok_or (signed_of bs) (EntryForm 0)
 
--- where the first comma stands, or the length where there is none
-abbrev pub comma : List ℕ → ℕ
-comma [] = 0
-comma (c ∷ cs) = cond (c == 44) 0 (suc (comma cs))
-
--- what stands before the first comma, and what stands behind it
-abbrev pub before : List ℕ → List ℕ
-before bs = between 0 (comma bs) bs
-
-abbrev pub behind : List ℕ → List ℕ
-behind bs = between (comma bs + 1) (length bs) bs
+abbrev pub is_comma : ℕ → Bool
+is_comma c = c == 44
 
 -- k numbers, a comma between each and the next
 unfoldable pub numbers_of : ℕ → List ℕ → Result (List ℤ) Fault
 numbers_of zero bs = Ok []
 numbers_of (suc zero) bs = then (λ x. Ok (x ∷ [])) (number_of bs)
-numbers_of (suc (suc k)) bs = then (λ x. then (λ xs. Ok (x ∷ xs)) (numbers_of (suc k) (behind bs))) (number_of (before bs))
+numbers_of (suc (suc k)) bs = then (λ x. then (λ xs. Ok (x ∷ xs)) (numbers_of (suc k) (after_first is_comma bs))) (number_of (before_first is_comma bs))

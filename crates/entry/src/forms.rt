@@ -48,51 +48,34 @@ fn plan(letter: u8, text: &[u8]) -> Result<Plan, Fault>
 fn mark(text: &[u8]) -> Result<bool, Fault>
     ensures { result ≡ mark_of text.now }
 {
-    if text.len() != 1 {
-        return Err(Fault::EntryForm(0));
-    }
-    match text[0] {
-        b'+' => Ok(true),
-        b'-' => Ok(false),
+    match text {
+        [b'+'] => Ok(true),
+        [b'-'] => Ok(false),
         _ => Err(Fault::EntryForm(0)),
     }
 }
 
-fn said_by_letter(text: &[u8]) -> Result<Said, Fault>
-    ensures { result ≡ said_of text.now }
-{
-    if text.len() == 0 {
-        return Err(Fault::EntryForm(0));
-    }
-    let rest = &text[1..];
-    match text[0] {
-        b'D' => {
-            let [name] = numbers::<1>(rest)?;
-            Ok(Said::Drum(name))
-        }
-        b'R' => {
-            let [reading] = numbers::<1>(rest)?;
-            Ok(Said::Reading(reading))
-        }
-        b'P' => {
-            let [first, second] = numbers::<2>(rest)?;
-            Ok(Said::Pair(first, second))
-        }
-        b'M' => {
-            let conforms = mark(rest)?;
-            Ok(Said::Mark(conforms))
-        }
-        letter => {
-            let plan = plan(letter, rest)?;
-            Ok(Said::Planned(plan))
-        }
-    }
-}
-
 // What the text of an entry says: a letter directly followed by what its form asks.
+#[tactic(auto, using(crate::proofs::Spelt::spelled_from))]
 pub fn said(text: &[u8]) -> Result<Said, Fault>
     ensures value { result ≡ said_of text.now }
     ensures spelled { Spelled text.now result }
 {
-    said_by_letter(text)
+    match text {
+        [b'D', rest @ ..] => {
+            let [name] = numbers::<1>(rest)?;
+            Ok(Said::Drum(name))
+        }
+        [b'R', rest @ ..] => {
+            let [reading] = numbers::<1>(rest)?;
+            Ok(Said::Reading(reading))
+        }
+        [b'P', rest @ ..] => {
+            let [first, second] = numbers::<2>(rest)?;
+            Ok(Said::Pair(first, second))
+        }
+        [b'M', rest @ ..] => Ok(Said::Mark(mark(rest)?)),
+        [letter, rest @ ..] => Ok(Said::Planned(plan(*letter, rest)?)),
+        [] => Err(Fault::EntryForm(0)),
+    }
 }

@@ -1,9 +1,9 @@
 // The kinds of entries.
 ghost use Rattle.std.specs.Prelude.{◌≡◌};
-ghost use Rattle.entry.specs.Entries.{letter_of, part_of, said_by, shown};
+ghost use Rattle.entry.specs.Entries.{letter_of, part_of, planned_of, said_by, shown};
 
 // A part of a sheet: its bytes, where they begin, and which entry they are, counted from 1.
-#[derive(Clone, Copy)]
+#[derive(Clone, Copy, Debug, PartialEq, Eq)]
 pub struct Part<'a> {
     pub bytes: &'a [u8],
     pub offset: usize,
@@ -11,7 +11,7 @@ pub struct Part<'a> {
 }
 
 // A plan with its numbers as they stand on the sheet.
-#[derive(Clone, Copy)]
+#[derive(Clone, Copy, Debug, PartialEq, Eq)]
 pub enum Plan {
     Known {
         n: i32,
@@ -50,7 +50,7 @@ pub enum Plan {
 }
 
 // What an entry says, without its part of a sheet.
-#[derive(Clone, Copy)]
+#[derive(Clone, Copy, Debug, PartialEq, Eq)]
 pub enum Said {
     Planned(Plan),
     Drum(i32),
@@ -60,7 +60,7 @@ pub enum Said {
 }
 
 // An entry of a sheet: what it says, with its own part of the sheet.
-#[derive(Clone, Copy)]
+#[derive(Clone, Copy, Debug, PartialEq, Eq)]
 pub enum Entry<'a> {
     Planned(Part<'a>, Plan),
     Drum(Part<'a>, i32),
@@ -82,6 +82,21 @@ impl Plan {
             Plan::Gauged { .. } => b'G',
             Plan::Mean { .. } => b'T',
             Plan::Paired { .. } => b'V',
+        }
+    }
+
+    // The planned number, as it stands on the sheet.
+    pub fn planned(self) -> i32
+        ensures { result ≡ planned_of self }
+    {
+        match self {
+            Plan::Known { n, .. }
+            | Plan::Unknown { n, .. }
+            | Plan::Window { n, .. }
+            | Plan::Marks { n, .. }
+            | Plan::Gauged { n, .. }
+            | Plan::Mean { n, .. }
+            | Plan::Paired { n } => n,
         }
     }
 }
@@ -116,11 +131,11 @@ impl<'a> Entry<'a> {
         ensures { shown result ≡ part_of self.entry }
     {
         match self {
-            Entry::Planned(part, _) => part,
-            Entry::Drum(part, _) => part,
-            Entry::Reading(part, _) => part,
-            Entry::Pair(part, _, _) => part,
-            Entry::Mark(part, _) => part,
+            Entry::Planned(part, _)
+            | Entry::Drum(part, _)
+            | Entry::Reading(part, _)
+            | Entry::Pair(part, _, _)
+            | Entry::Mark(part, _) => part,
         }
     }
 }

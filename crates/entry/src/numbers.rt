@@ -1,65 +1,59 @@
 // Numbers as text.
-ghost use Rattle.std.specs.Prelude.{◌≡◌, ◌+◌, ◌^◌, ◌<◌, ◌≤◌, length, IfOk};
-ghost use Rattle.entry.specs.Numbers.{comma, digits_of, number_of, numbers_of};
-ghost use Rattle.entry.specs.Printed.{Printed};
-ghost use Rattle.std.specs.Option.{ok_or};
+ghost use Rattle.std.specs.Prelude.{◌≡◌, ◌<◌, length, IfOk, pos};
+ghost use Rattle.entry.specs.Numbers.{digits_of, number_of, numbers_of};
+ghost use Rattle.entry.specs.Printed.{Printed, Short};
+ghost use Rattle.fault.specs.Located.{then};
+ghost use Rattle.std.specs.Option.{ok_or, option_map};
 
 use fault::Fault;
 
 const MOST_DIGITS: usize = 7;
 
-// One digit up to `most`, the first not 0.
-fn digits(text: &[u8], most: usize) -> Result<u32, Fault>
-    requires { most ≤ 9 }
-    ensures value { result ≡ ok_or (digits_of most text.now) (Fault.EntryForm 0) }
-    ensures below { IfOk result (λ n. n < 10 ^ most) }
+// One to seven digits, the first not 0.
+fn digits(text: &[u8]) -> Result<i32, Fault>
+    ensures value { result ≡ ok_or (option_map pos (digits_of 7 text.now)) (Fault.EntryForm 0) }
+    ensures short { IfOk result Short }
 {
-    if text.len() == 0 || text.len() > most || text[0] == b'0' {
+    if text.is_empty() || text.len() > MOST_DIGITS || text[0] == b'0' {
         return Err(Fault::EntryForm(0));
     }
     let mut n: u32 = 0;
     for c in text {
-        if *c < b'0' || *c > b'9' {
+        if !c.is_ascii_digit() {
             return Err(Fault::EntryForm(0));
         }
-        n = n * 10 + (*c - b'0') as u32;
+        n = n * 10 + u32::from(*c - b'0');
     }
-    Ok(n)
-}
-
-fn signed_digits(text: &[u8]) -> Result<i32, Fault>
-    ensures { result ≡ number_of text.now }
-{
-    if text.len() == 1 && text[0] == b'0' {
-        return Ok(0);
-    }
-    if text.len() > 0 && text[0] == b'-' {
-        let n = digits(&text[1..], MOST_DIGITS)?;
-        return Ok(-(n as i32));
-    }
-    let n = digits(text, MOST_DIGITS)?;
     Ok(n as i32)
 }
 
 // The number that a text is: 0, or an optional minus and one to seven digits, the first not 0.
+#[tactic(auto, using(crate::proofs::Spelling::printed_from))]
 pub fn number(text: &[u8]) -> Result<i32, Fault>
     ensures value { result ≡ number_of text.now }
     ensures printed { Printed text.now result }
 {
-    signed_digits(text)
+    match text {
+        [b'0'] => Ok(0),
+        [b'-', rest @ ..] => Ok(-digits(rest)?),
+        _ => digits(text),
+    }
 }
 
-// Where the first comma stands, or the text's length.
-fn comma_at(text: &[u8]) -> usize
-    ensures value { result ≡ comma text.now }
-    ensures within { result ≤ length text.now }
+// As many numbers as `found` has places, a comma between each and the next.
+fn fill(found: &mut [i32], text: &[u8]) -> Result<(), Fault>
+    requires { 0 < length found.old }
+    ensures { then (λ _. Ok found.new) result ≡ numbers_of (length found.old) text.now }
 {
-    for (i, c) in text.iter().enumerate() {
-        if *c == b',' {
-            return i;
-        }
+    let mut pieces = text.split(|c| *c == b',');
+    for slot in found.iter_mut() {
+        let piece = pieces.next().ok_or(Fault::EntryForm(0))?;
+        *slot = number(piece)?;
     }
-    text.len()
+    match pieces.next() {
+        None => Ok(()),
+        Some(_) => Err(Fault::EntryForm(0)),
+    }
 }
 
 // The N numbers that a text is, a comma between each and the next.
@@ -68,15 +62,6 @@ pub(crate) fn numbers<const N: usize>(text: &[u8]) -> Result<[i32; N], Fault>
     ensures { result ≡ numbers_of N text.now }
 {
     let mut found = [0; N];
-    let mut rest = text;
-    for i in 0..N - 1 {
-        let end = comma_at(rest);
-        found[i] = number(&rest[0..end])?;
-        if end == rest.len() {
-            return Err(Fault::EntryForm(0));
-        }
-        rest = &rest[end + 1..];
-    }
-    found[N - 1] = number(rest)?;
+    fill(&mut found, text)?;
     Ok(found)
 }

@@ -1,8 +1,9 @@
-use Rattle.std.proofs.Common.{◌≡◌, ℕ, ◌+◌, ◌-◌, ◌*◌, ◌^◌, ◌<◌, ◌≤◌, cond, List, length, get_or, drop, Some, None, pow-suc, add-one, arith, rules}
+use Rattle.std.proofs.Common.{◌≡◌, ℕ, ◌+◌, ◌*◌, ◌^◌, ◌<◌, ◌≤◌, pow-suc, add-one, pos, arith, w32, to_z}
+use borrow.Author.Differences.{ints}
 use native.Mathlib.Nat.{pow-le-pow_right}
 use Rattle.std.proofs.lemmas.List.{at_drop_more, at_drop_all}
 use Rattle.std.proofs.lemmas.Bool.Decides.{nat_tests}
-use Rattle.entry.specs.Numbers.{digits_after, digit}
+use Rattle.entry.specs.Numbers.{digits_after}
 use Rattle.entry.proofs.numbers.digits.Goals as goal
 
 grows : (n d i : ℕ) → n < 10 ^ i → d < 10 → n * 10 + d < 10 ^ (i + 1)
@@ -11,35 +12,30 @@ grows n d i h k = let e : 10 ^ (i + 1) ≡ 10 ^ i * 10 = rw add-one (pow-suc 10 
 under : (n i j : ℕ) → n < 10 ^ i → i ≤ j → n < 10 ^ j
 under n i j h k = let p : 10 ^ i ≤ 10 ^ j = pow-le-pow_right (omega arith) k in omega arith
 
-small : (n i : ℕ) → n < 10 ^ i → i < 9 → n < 100000000
-small n i h k = under n i 8 h (omega arith)
-
-step : (n i : ℕ) (text : List ℕ) → i < length text → digits_after n (drop i text) ≡ cond (digit (get_or text i 0)) (digits_after (n * 10 + (get_or text i 0 - 48)) (drop (i + 1) text)) None
-step n i text h = at_drop_more (digits_after n) text i 0 h
-
-last : (n i : ℕ) (text : List ℕ) → length text ≤ i → digits_after n (drop i text) ≡ Some n
-last n i text h = at_drop_all (digits_after n) text i h
-
-pub returns-then-c-lt48 : goal.returns-then-c-lt48
-returns-then-c-lt48 c =
-    let e = step c.loop-c.n c.loop-c.c-index c.args.text.now (omega arith) in
+pub returns-then-not-is_ascii_digit : goal.returns-then-not-is_ascii_digit
+returns-then-not-is_ascii_digit c =
+    let e = at_drop_more (digits_after c.loop-c.n) c.args.text.now c.loop-c.c-index 0 (omega arith) in
     let i = c.loop-c.invariant.0 in
-    record { value = grind (arith, nat_tests); below = tt }
+    record { value = grind (arith, nat_tests); short = tt }
 
 pub overflow_mul-n : goal.overflow_mul-n
-overflow_mul-n c = let h = small c.loop-c.n c.loop-c.c-index c.loop-c.invariant.1 (omega arith) in search rules
+overflow_mul-n c = omega (arith, under c.loop-c.n c.loop-c.c-index 6 c.loop-c.invariant.1 (omega arith))
 
 pub overflow_add-n : goal.overflow_add-n
-overflow_add-n c = let h = small c.loop-c.n c.loop-c.c-index c.loop-c.invariant.1 (omega arith) in search rules
+overflow_add-n c = omega (arith, under c.loop-c.n c.loop-c.c-index 6 c.loop-c.invariant.1 (omega arith))
 
 pub loop-c-preserved : goal.loop-c-preserved
 loop-c-preserved c =
-    let e = step c.loop-c.n c.loop-c.c-index c.args.text.now (omega arith) in
+    let e = at_drop_more (digits_after c.loop-c.n) c.args.text.now c.loop-c.c-index 0 (omega arith) in
     let i = c.loop-c.invariant.0 in
-    (grind (arith, nat_tests), grows c.loop-c.n _ _ c.loop-c.invariant.1 (omega arith))
+    let d : c.from.result < 10 = grind (arith, nat_tests) in
+    (grind (arith, nat_tests), grows c.loop-c.n _ _ c.loop-c.invariant.1 d)
 
 pub returns : goal.returns
 returns c =
-    let e = last c.loop-c.n c.loop-c.c-index c.args.text.now (omega arith) in
+    let e = at_drop_all (digits_after c.loop-c.n) c.args.text.now c.loop-c.c-index (omega arith) in
     let i = c.loop-c.invariant.0 in
-    record { value = grind (arith, nat_tests); below = under c.loop-c.n c.loop-c.c-index c.args.most c.loop-c.invariant.1 (omega arith) }
+    let n = c.loop-c.n in
+    let s : n < 10 ^ 7 = under n c.loop-c.c-index 7 c.loop-c.invariant.1 (omega arith) in
+    let z : to_z w32 n ≡ pos n = omega (arith, ints) in
+    record { value = rw z (grind (arith, nat_tests)); short = rw z s }

@@ -1,11 +1,10 @@
-use Rattle.std.proofs.Common.{sym, subst}
-use Rattle.entry.specs.Printed.{Printed}
-use Rattle.entry.proofs.Spelling.{printed}
+use Rattle.std.proofs.Common.{arith}
+use Rattle.std.proofs.lemmas.Grind.{common_steps}
+use Rattle.entry.proofs.Spelling.{printed_from}
 use Rattle.entry.proofs.numbers.number.Goals as goal
 
-pub returns : goal.returns
-returns c =
-    record {
-      value = c.signed_digits.ensures;
-      printed = subst (Printed c.args.text.now) (sym c.signed_digits.ensures) (printed c.args.text.now);
-    }
+pub returns-in_ok-digits-in-45-clause-printed : goal.returns-in_ok-digits-in-45-clause-printed
+returns-in_ok-digits-in-45-clause-printed c = printed_from c.args.text.now _ (grind (arith, common_steps))
+
+pub returns-in_default-clause-printed : goal.returns-in_default-clause-printed
+returns-in_default-clause-printed c = printed_from c.args.text.now _ (grind (arith, common_steps))
