@@ -19,10 +19,10 @@ returns-then-not-is_ascii_digit c =
     record { value = grind (arith, nat_tests); short = tt }
 
 pub overflow_mul-n : goal.overflow_mul-n
-overflow_mul-n c = omega (arith, under c.loop-c.n c.loop-c.c-index 6 c.loop-c.invariant.1 (omega arith))
+overflow_mul-n c = omega (arith, under c.loop-c.n c.loop-c.c-index 8 c.loop-c.invariant.1 (omega arith))
 
 pub overflow_add-n : goal.overflow_add-n
-overflow_add-n c = omega (arith, under c.loop-c.n c.loop-c.c-index 6 c.loop-c.invariant.1 (omega arith))
+overflow_add-n c = omega (arith, under c.loop-c.n c.loop-c.c-index 8 c.loop-c.invariant.1 (omega arith))
 
 pub loop-c-preserved : goal.loop-c-preserved
 loop-c-preserved c =
