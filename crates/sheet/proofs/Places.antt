@@ -27,7 +27,7 @@ sized_is s h =
       table = grind (arith, nat_tests);
     }
 
-is_sized : (s : List ℕ) → 2 ≤ length s → length s ≤ 65535 → 0 < count_of s → table_end s ≤ length s → sized s ≡ true
+pub is_sized : (s : List ℕ) → 2 ≤ length s → length s ≤ 65535 → 0 < count_of s → table_end s ≤ length s → sized s ≡ true
 is_sized s a b d e = grind (arith, nat_tests)
 
 pub unsized : (s : List ℕ) → sized s ≡ false → Sized s → ⊥
@@ -68,6 +68,15 @@ unplaced s i h p =
     let e = placed_true s i p in
     let n : ◌≡◌ {A = ℕ} 0 1 = cc in
     omega arith
+
+-- the entries from i on, of the first m
+pub misplaced_from : (s : List ℕ) (m i : ℕ) → i < m → misplaced s (m - i) i ≡ cond (placed s i) (misplaced s (m - (i + 1)) (i + 1)) (Some i)
+unfolding misplaced
+misplaced_from s m i h = let e : m - i ≡ suc (m - (i + 1)) = omega arith in rw e
+
+pub misplaced_none : (s : List ℕ) (m i : ℕ) → m ≤ i → misplaced s (m - i) i ≡ None
+unfolding misplaced
+misplaced_none s m i h = let e : m - i ≡ 0 = omega arith in rw e
 
 none_found : (b : Bool) (r : Option ℕ) (i : ℕ) → cond b r (Some i) ≡ None → (b ≡ true) × (r ≡ None)
 none_found true r i h = (refl, h)

@@ -1,5 +1,5 @@
 -- A whole sheet is taken or refused by the rules.
-use Rattle.std.proofs.Common.{◌≡◌, ℕ, zero, suc, ◌+◌, ◌<◌, ◌≤◌, Bool, true, false, cond, List, [], ◌∷◌, ◌++◌, length, get_or, Some, None, Ok, Err, Option, Result, sym, refl, ap, ◌∙◌, subst, ⊎_elim, arith}
+use Rattle.std.proofs.Common.{◌≡◌, ℕ, zero, suc, ◌+◌, ◌<◌, ◌≤◌, Bool, true, false, cond, List, [], ◌∷◌, ◌++◌, length, get_or, Some, None, Ok, Err, Option, Result, sym, refl, ap, ◌∙◌, subst, inl, inr, ⊎_elim, arith}
 use Rattle.std.proofs.lemmas.List.{append-nil, get_or_append_left, get_or_push, length-map, length_push, map_push}
 use Rattle.std.proofs.lemmas.Bool.{cases_lt}
 use Rattle.std.specs.List.{between}
@@ -15,9 +15,9 @@ use Rattle.sheet.proofs.Places.{apart, first_misplaced, none_misplaced, part_siz
 use Rattle.fault.proofs.Passed.{with, with_more, with_none}
 use Rattle.sheet.specs.Order.{followed}
 use Rattle.sheet.specs.Reading.{Item, item, place_at, standing}
-use Rattle.sheet.specs.Rules.{Begins, Lies, Ordered, Placed, Read, Refused, Sized, Taken, says}
+use Rattle.sheet.specs.Rules.{Begins, Lies, Ordered, Placed, Read, ReadByRules, Refused, Sized, Taken, says}
 use Rattle.sheet.specs.Rules.Refused.{wrong_size, misplaced, formless, disordered}
-use Rattle.sheet.specs.Sheets.{items_from, sheet_of}
+use Rattle.sheet.specs.Sheets.{Answered, items_from, sheet_of}
 use Rattle.sheet.specs.Table as table
 use Rattle.sheet.specs.Table.{count_of, end_at, offset_at, part_at, size_at, sized, table_end, table_of, unless}
 use Rattle.sheet.specs.declared.order.Stage.{Stage}
@@ -115,3 +115,7 @@ read_table s true None h g =
 -- every sheet is taken with its entries, or gets its refusal
 pub read_alone : (s : List ℕ) → Read s (sheet_of s)
 read_alone s = read_table s (sized s) (table.misplaced s (count_of s) 0) refl refl
+
+-- an answer as it should be is by the rules
+pub by_rules : (s : List ℕ) (r : Result (List Item) Fault) → Answered r (sheet_of s) → ReadByRules s r
+by_rules s r h = ⊎_elim inl (λ e. inr (subst (Read s) (sym e) (read_alone s))) h

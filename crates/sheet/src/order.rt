@@ -5,7 +5,7 @@ ghost use Rattle.sheet.specs.Order.{followed, kind_of};
 use entry::{Plan, Said};
 
 // What a plan is on.
-#[derive(Clone, Copy)]
+#[derive(Clone, Copy, Debug, PartialEq, Eq)]
 pub enum Kind {
     OfReadings,
     OfPairs,
@@ -13,7 +13,7 @@ pub enum Kind {
 }
 
 // How far a sheet has come: before its plan, before its first drum, or among its drums.
-#[derive(Clone, Copy)]
+#[derive(Clone, Copy, Debug, PartialEq, Eq)]
 pub enum Stage {
     BeforePlan,
     BeforeDrums(Kind),
@@ -36,11 +36,12 @@ pub(crate) fn follow(stage: Stage, said: Said) -> Option<Stage>
 {
     match (stage, said) {
         (Stage::BeforePlan, Said::Planned(plan)) => Some(Stage::BeforeDrums(kind_of(plan))),
-        (Stage::BeforeDrums(kind), Said::Drum(_)) => Some(Stage::AmongDrums(kind)),
-        (Stage::AmongDrums(_), Said::Drum(_)) => Some(stage),
-        (Stage::AmongDrums(Kind::OfReadings), Said::Reading(_)) => Some(stage),
-        (Stage::AmongDrums(Kind::OfPairs), Said::Pair(_, _)) => Some(stage),
-        (Stage::AmongDrums(Kind::OfMarks), Said::Mark(_)) => Some(stage),
+        (Stage::BeforeDrums(kind) | Stage::AmongDrums(kind), Said::Drum(_)) => {
+            Some(Stage::AmongDrums(kind))
+        }
+        (Stage::AmongDrums(Kind::OfReadings), Said::Reading(_))
+        | (Stage::AmongDrums(Kind::OfPairs), Said::Pair(_, _))
+        | (Stage::AmongDrums(Kind::OfMarks), Said::Mark(_)) => Some(stage),
         _ => None,
     }
 }

@@ -4,46 +4,16 @@ ghost use Rattle.sheet.specs.Reading.{advanced, begun, entry_at, opened, progres
 ghost use Rattle.sheet.specs.Reading.{step_at};
 
 use crate::order::{Stage, follow};
-use crate::table::{is_placed, span_at, table};
+use crate::table::{place, table};
 use entry::{Entry, Part, said};
 use fault::{Fault, within};
 
-#[derive(Drop)]
+#[derive(Debug, Drop)]
 pub struct Reader<'a> {
     sheet: &'a [u8],
     count: u16,
     next: u16,
     stage: Stage,
-}
-
-// Entry i of a sheet that has come to a stage, and the stage behind it.
-fn step<'a>(sheet: &'a [u8], i: u16, stage: Stage) -> Result<(Entry<'a>, Stage), Fault>
-    requires { i < 65535 }
-    ensures { step_seen result ≡ step_at sheet.now i stage }
-{
-    let place = i + 1;
-    if !is_placed(sheet, i) {
-        return Err(Fault::EntryPlace(place));
-    }
-    let span = span_at(sheet, i);
-    let offset = span.offset;
-    let end = offset + span.size;
-    let bytes = &sheet[offset..end];
-    let said = within(said(bytes), place)?;
-    match follow(stage, said) {
-        Some(next) => Ok((
-            Entry::new(
-                Part {
-                    bytes,
-                    offset,
-                    place,
-                },
-                said,
-            ),
-            next,
-        )),
-        None => Err(Fault::EntryOrder(place)),
-    }
 }
 
 impl<'a> Reader<'a> {
@@ -60,6 +30,25 @@ impl<'a> Reader<'a> {
         })
     }
 
+    // The entry that comes next, and the stage behind it.
+    fn step(&self) -> Result<(Entry<'a>, Stage), Fault>
+        requires { self.now.next < 65535 }
+        ensures { step_seen result ≡ step_at self.now.sheet.now self.now.next self.now.stage }
+    {
+        let span = place(self.sheet, self.next)?;
+        let place = self.next + 1;
+        let offset = span.start;
+        let bytes = &self.sheet[span];
+        let said = within(said(bytes), place)?;
+        let stage = follow(self.stage, said).ok_or(Fault::EntryOrder(place))?;
+        let part = Part {
+            bytes,
+            offset,
+            place,
+        };
+        Ok((Entry::new(part, said), stage))
+    }
+
     // The next entry, or none behind the last; a refusal leaves the reader where it was.
     pub fn read(&mut self) -> Result<Option<Entry<'a>>, Fault>
         ensures { (seen result, progress self.new) ≡ advanced (progress self.old) }
@@ -67,7 +56,7 @@ impl<'a> Reader<'a> {
         if self.next >= self.count {
             return Ok(None);
         }
-        let (entry, stage) = step(self.sheet, self.next, self.stage)?;
+        let (entry, stage) = self.step()?;
         self.next += 1;
         self.stage = stage;
         Ok(Some(entry))

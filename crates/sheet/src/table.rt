@@ -1,8 +1,9 @@
 // The table of a sheet: how many entries it has, and where each of them lies.
-ghost use Rattle.std.specs.Prelude.{◌≡◌, ◌+◌, ◌*◌, ◌<◌, ◌≤◌, length};
-ghost use Rattle.sheet.specs.Table.{offset_at, placed, size_at, table_end, table_of, word_at};
+ghost use Rattle.std.specs.Prelude.{◌≡◌, ◌+◌, ◌*◌, ◌<◌, ◌≤◌, true, false, length, IfOk, IfErr};
+ghost use Rattle.sheet.specs.Table.{end_at, offset_at, placed, table_end, table_of, word_at};
 
 use fault::Fault;
+use std::ops::Range;
 
 const SHORTEST: usize = 2;
 
@@ -10,19 +11,12 @@ const LONGEST: usize = 65_535;
 
 const LONGEST_ENTRY: usize = 48;
 
-// Where an entry begins, and how many bytes it has.
-#[derive(Clone, Copy)]
-pub struct Span {
-    pub offset: usize,
-    pub size: usize,
-}
-
 // 16 bits of a sheet, high byte first.
 fn word(sheet: &[u8], i: usize) -> u16
     requires { i + 1 < length sheet.now }
     ensures { result ≡ word_at sheet.now i }
 {
-    sheet[i] as u16 * 256 + sheet[i + 1] as u16
+    u16::from_be_bytes([sheet[i], sheet[i + 1]])
 }
 
 // Where the table ends.
@@ -30,46 +24,52 @@ fn table_end(sheet: &[u8]) -> usize
     requires { 1 < length sheet.now }
     ensures { result ≡ table_end sheet.now }
 {
-    2 + 4 * word(sheet, 0) as usize
+    2 + 4 * usize::from(word(sheet, 0))
 }
 
-pub(crate) fn span_at(sheet: &[u8], i: u16) -> Span
+// Where entry i lies.
+fn span_at(sheet: &[u8], i: u16) -> Range<usize>
     requires { 2 + 4 * i + 4 ≤ length sheet.now }
-    ensures offset { result.offset ≡ offset_at sheet.now i }
-    ensures size { result.size ≡ size_at sheet.now i }
+    ensures start { result.start ≡ offset_at sheet.now i }
+    ensures end { result.end ≡ end_at sheet.now i }
 {
-    let at = 2 + 4 * i as usize;
-    Span {
-        offset: word(sheet, at) as usize,
-        size: word(sheet, at + 2) as usize,
-    }
+    let at = 2 + 4 * usize::from(i);
+    let start = usize::from(word(sheet, at));
+    start..start + usize::from(word(sheet, at + 2))
 }
 
-// Whether entry i lies where an entry may: behind the table, behind the entry before it, and within the sheet.
-pub(crate) fn is_placed(sheet: &[u8], i: u16) -> bool
-    ensures { result ≡ placed sheet.now i }
+// Where entry i lies, if it lies behind the table, behind the entry before it, and within the sheet.
+pub(crate) fn place(sheet: &[u8], i: u16) -> Result<Range<usize>, Fault>
+    requires { i < 65535 }
+    ensures lies { IfOk result (λ r. (placed sheet.now i ≡ true) × (r.start ≡ offset_at sheet.now i) × (r.end ≡ end_at sheet.now i)) }
+    ensures stray { IfErr result (λ f. (placed sheet.now i ≡ false) × (f ≡ Fault.EntryPlace (i + 1))) }
 {
-    if 2 + 4 * i as usize + 4 > sheet.len() {
-        return false;
+    let stray = Fault::EntryPlace(i + 1);
+    if 2 + 4 * usize::from(i) + 4 > sheet.len() {
+        return Err(stray);
     }
     let here = span_at(sheet, i);
-    let before = if i == 0 {
-        Span { offset: 0, size: 0 }
-    } else {
-        span_at(sheet, i - 1)
+    let before = match i.checked_sub(1) {
+        Some(previous) => span_at(sheet, previous).end,
+        None => 0,
     };
-    here.size >= 1
-        && here.size <= LONGEST_ENTRY
-        && here.offset >= table_end(sheet)
-        && here.offset >= before.offset + before.size
-        && here.offset + here.size <= sheet.len()
+    if (1..=LONGEST_ENTRY).contains(&here.len())
+        && here.start >= table_end(sheet)
+        && here.start >= before
+        && here.end <= sheet.len()
+    {
+        Ok(here)
+    } else {
+        Err(stray)
+    }
 }
 
 // The number of entries of a sheet whose size and places are as they should be.
+#[tactic(auto, using(crate::proofs::Places::misplaced_from, crate::proofs::Places::misplaced_none))]
 pub(crate) fn table(sheet: &[u8]) -> Result<u16, Fault>
     ensures { result ≡ table_of sheet.now }
 {
-    if sheet.len() < SHORTEST || sheet.len() > LONGEST {
+    if !(SHORTEST..=LONGEST).contains(&sheet.len()) {
         return Err(Fault::SheetSize);
     }
     let count = word(sheet, 0);
@@ -77,9 +77,7 @@ pub(crate) fn table(sheet: &[u8]) -> Result<u16, Fault>
         return Err(Fault::SheetSize);
     }
     for i in 0..count {
-        if !is_placed(sheet, i) {
-            return Err(Fault::EntryPlace(i + 1));
-        }
+        place(sheet, i)?;
     }
     Ok(count)
 }

@@ -2,7 +2,7 @@ use Rattle.std.proofs.Common.{◌≡◌, ◌-◌, map, vec_items}
 use Rattle.sheet.specs.Reading.{item_of}
 use Rattle.sheet.specs.Sheets.{items_from, sheet_of}
 use Rattle.fault.proofs.Passed.{with}
-use Rattle.sheet.proofs.whole.gather.Given as goal
+use Rattle.sheet.proofs.whole.entries.Given as goal
 
 abbrev pub invariant-loop-found : goal.invariant-loop-found
 invariant-loop-found l =
