@@ -49,7 +49,7 @@ row_reads (suc k) bs xs h =
     let p = (printed (before_first is_comma bs)).reads a.0 a.1 in
     let q = row_reads k behind b.0 b.1 in
     let some : position_or_len is_comma bs < length bs =
-    ⊎_elim (λ l. l) (λ l. absurd (let n = drop_all (position_or_len is_comma bs + 1) bs (omega arith) in let z : ⊥ = cc (b.1, ap (numbers_of (suc k)) n, no_more k) in z)) (cases_lt (position_or_len is_comma bs) (length bs)) in
+    ⊎_elim (λ l. l) (λ l. let n = drop_all (position_or_len is_comma bs + 1) bs (omega arith) in cc (b.1, no_more k)) (cases_lt (position_or_len is_comma bs) (length bs)) in
     let w : bs ≡ signed_decimal a.0 ++ 44 ∷ commas b.0 = cut bs some ∙ (λ i. p.0 i ++ 44 ∷ q.1 i) in
     subst (Row (suc (suc k)) bs) e (ap suc q.0, w ∙ sym (commas_more a.0 b.0 (omega (arith, q.0))), (p.1, q.2))
 

@@ -22,7 +22,7 @@ own = numerals_by_fold _ (search rules) read_on (search rules)
 
 pick : (b : Bool) (r : Option ℕ) (m : ℕ) → cond b r None ≡ Some m → (b ≡ true) × (r ≡ Some m)
 pick true r m h = (refl, h)
-pick false r m h = let z : ◌≡◌ {A = ℕ} 0 1 = cc in absurd (omega arith)
+pick false r m h = cc
 
 halves : (a b : Bool) → (a && b) ≡ true → (a ≡ true) × (b ≡ true)
 halves true b h = (refl, h)
@@ -80,7 +80,7 @@ positive ds zero e ne = absurd (ne (ap (λ l. get_or l 0 0) (e ∙ nought)))
 positive ds (suc k) e ne = omega arith
 
 some_of : {X Y : Type 0} (f : X → Y) (o : Option X) (y : Y) → option_map f o ≡ Some y → (x : X) × (o ≡ Some x) × (f x ≡ y)
-some_of f None y h = let z : ◌≡◌ {A = ℕ} 0 1 = cc in absurd (omega arith)
+some_of f None y h = cc
 some_of f (Some x) y h = (x, refl, cc)
 
 negated : (m : ℕ) → 0 < m → m < 10 ^ 7 → (signed_decimal (neg_ℤ (pos m)) ≡ 45 ∷ decimal m) × Short (neg_ℤ (pos m))
@@ -124,7 +124,7 @@ from (pos (suc k)) h =
 from (negsuc k) h = rw (nor (eqb (length (signed_decimal (negsuc k))) 1), rest_is (signed_decimal (negsuc k)), digits_from (suc k) (omega arith) h)
 
 some_read : (o : Option ℤ) (f : Fault) (z : ℤ) → ok_or o f ≡ Ok z → o ≡ Some z
-some_read None f z h = let e : ◌≡◌ {A = ℕ} 0 1 = cc in absurd (omega arith)
+some_read None f z h = cc
 some_read (Some x) f z h = cc
 
 pub printed : (bs : List ℕ) → Printed bs (number_of bs)

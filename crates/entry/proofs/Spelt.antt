@@ -33,7 +33,7 @@ abbrev Reads : {X : Type 0} → (X → Said) → List ℕ → Result X Fault →
 Reads {X} f bs r = (x : X) → r ≡ Ok x → Says bs (f x)
 
 reads_none : {X : Type 0} (f : X → Said) (bs : List ℕ) → Reads f bs (Err (EntryForm 0))
-reads_none f bs x h = let z : ◌≡◌ {A = ℕ} 0 1 = cc in absurd (omega arith)
+reads_none f bs x h = cc
 
 reads_cond : {X : Type 0} (f : X → Said) (bs : List ℕ) (b : Bool) (r s : Result X Fault) → (b ≡ true → Reads f bs r) → Reads f bs s → Reads f bs (cond b r s)
 reads_cond f bs true r s h k = h refl

@@ -70,9 +70,6 @@ reached_order (BeforeDrums k) xs r h = subst Ordered (sym r.2) alone
     }
 reached_order (AmongDrums k) xs r h = subst Ordered (sym r.4) (in_order r.0 r.1 r.2 r.5)
 
-no_some : {X : Type 0} (x : X) → ◌≡◌ {A = Option X} None (Some x) → ⊥
-no_some x h = let z : ◌≡◌ {A = ℕ} 0 1 = cc in omega arith
-
 same_stage : (t u : Stage) → ◌≡◌ {A = Option Stage} (Some t) (Some u) → t ≡ u
 same_stage t u h = cc
 
@@ -83,25 +80,25 @@ pushed k xs r x f = (r.0, r.1, r.2 ++ x ∷ [], r.3, ap (λ ys. ys ++ x ∷ []) 
 -- one entry more that may stand there
 pub reached_more : (t u : Stage) (xs : List Said) (x : Said) → Reached t xs → followed t x ≡ Some u → Reached u (xs ++ x ∷ [])
 reached_more BeforePlan u xs (Planned p) r h = subst (λ v. Reached v (xs ++ Planned p ∷ [])) (same_stage (BeforeDrums (kind_of p)) u h) (p, refl, ap (λ ys. ys ++ Planned p ∷ []) r)
-reached_more BeforePlan u xs (Drum a) r h = absurd (no_some u h)
-reached_more BeforePlan u xs (Reading a) r h = absurd (no_some u h)
-reached_more BeforePlan u xs (Pair a b) r h = absurd (no_some u h)
-reached_more BeforePlan u xs (Mark b) r h = absurd (no_some u h)
-reached_more (BeforeDrums k) u xs (Planned p) r h = absurd (no_some u h)
+reached_more BeforePlan u xs (Drum a) r h = cc
+reached_more BeforePlan u xs (Reading a) r h = cc
+reached_more BeforePlan u xs (Pair a b) r h = cc
+reached_more BeforePlan u xs (Mark b) r h = cc
+reached_more (BeforeDrums k) u xs (Planned p) r h = cc
 reached_more (BeforeDrums k) u xs (Drum a) r h = subst (λ v. Reached v (xs ++ Drum a ∷ [])) (same_stage (AmongDrums k) u h) (r.0, a, [], r.1, ap (λ ys. ys ++ Drum a ∷ []) r.2, tt)
-reached_more (BeforeDrums k) u xs (Reading a) r h = absurd (no_some u h)
-reached_more (BeforeDrums k) u xs (Pair a b) r h = absurd (no_some u h)
-reached_more (BeforeDrums k) u xs (Mark b) r h = absurd (no_some u h)
-reached_more (AmongDrums k) u xs (Planned p) r h = absurd (no_some u h)
+reached_more (BeforeDrums k) u xs (Reading a) r h = cc
+reached_more (BeforeDrums k) u xs (Pair a b) r h = cc
+reached_more (BeforeDrums k) u xs (Mark b) r h = cc
+reached_more (AmongDrums k) u xs (Planned p) r h = cc
 reached_more (AmongDrums k) u xs (Drum a) r h = subst (λ v. Reached v (xs ++ Drum a ∷ [])) (same_stage (AmongDrums k) u h) (pushed k xs r (Drum a) tt)
 reached_more (AmongDrums OfReadings) u xs (Reading a) r h = subst (λ v. Reached v (xs ++ Reading a ∷ [])) (same_stage (AmongDrums OfReadings) u h) (pushed OfReadings xs r (Reading a) r.3)
-reached_more (AmongDrums OfPairs) u xs (Reading a) r h = absurd (no_some u h)
-reached_more (AmongDrums OfMarks) u xs (Reading a) r h = absurd (no_some u h)
-reached_more (AmongDrums OfReadings) u xs (Pair a b) r h = absurd (no_some u h)
+reached_more (AmongDrums OfPairs) u xs (Reading a) r h = cc
+reached_more (AmongDrums OfMarks) u xs (Reading a) r h = cc
+reached_more (AmongDrums OfReadings) u xs (Pair a b) r h = cc
 reached_more (AmongDrums OfPairs) u xs (Pair a b) r h = subst (λ v. Reached v (xs ++ Pair a b ∷ [])) (same_stage (AmongDrums OfPairs) u h) (pushed OfPairs xs r (Pair a b) r.3)
-reached_more (AmongDrums OfMarks) u xs (Pair a b) r h = absurd (no_some u h)
-reached_more (AmongDrums OfReadings) u xs (Mark b) r h = absurd (no_some u h)
-reached_more (AmongDrums OfPairs) u xs (Mark b) r h = absurd (no_some u h)
+reached_more (AmongDrums OfMarks) u xs (Pair a b) r h = cc
+reached_more (AmongDrums OfReadings) u xs (Mark b) r h = cc
+reached_more (AmongDrums OfPairs) u xs (Mark b) r h = cc
 reached_more (AmongDrums OfMarks) u xs (Mark b) r h = subst (λ v. Reached v (xs ++ Mark b ∷ [])) (same_stage (AmongDrums OfMarks) u h) (pushed OfMarks xs r (Mark b) r.3)
 
 -- the last entry behind a plan fits it
@@ -125,7 +122,7 @@ pub reached_stops : (t : Stage) (xs : List Said) (x : Said) → Reached t xs →
 reached_stops BeforePlan xs x r h o = first x h (subst (λ ys. Ordered (ys ++ x ∷ [])) r o).plan_first
   where
     first : (x : Said) → followed BeforePlan x ≡ None → IsPlan x → ⊥
-    first (Planned p) h g = no_some (BeforeDrums (kind_of p)) (sym h)
+    first (Planned p) h g = cc
     first (Drum a) h g = g
     first (Reading a) h g = g
     first (Pair a b) h g = g
@@ -134,7 +131,7 @@ reached_stops (BeforeDrums k) xs x r h o = second x h (subst (λ ys. Ordered (ys
   where
     second : (x : Said) → followed (BeforeDrums k) x ≡ None → Ordered (Planned r.0 ∷ x ∷ []) → ⊥
     second (Planned p) h o = last_fits r.0 [] (Planned p) o
-    second (Drum a) h o = no_some (AmongDrums k) (sym h)
+    second (Drum a) h o = cc
     second (Reading a) h o = undrummed r.0 (Reading a) tt o
     second (Pair a b) h o = undrummed r.0 (Pair a b) tt o
     second (Mark b) h o = undrummed r.0 (Mark b) tt o
@@ -143,13 +140,13 @@ reached_stops (AmongDrums k) xs x r h o =
   where
     later : (k : Kind) (x : Said) → followed (AmongDrums k) x ≡ None → kind_of r.0 ≡ k → FitsPlan r.0 x → ⊥
     later k (Planned p) h e f = f
-    later k (Drum a) h e f = no_some (AmongDrums k) (sym h)
-    later OfReadings (Reading a) h e f = no_some (AmongDrums OfReadings) (sym h)
-    later OfPairs (Reading a) h e f = let z : ◌≡◌ {A = ℕ} 0 1 = cc in omega arith
-    later OfMarks (Reading a) h e f = let z : ◌≡◌ {A = ℕ} 0 1 = cc in omega arith
-    later OfReadings (Pair a b) h e f = let z : ◌≡◌ {A = ℕ} 0 1 = cc in omega arith
-    later OfPairs (Pair a b) h e f = no_some (AmongDrums OfPairs) (sym h)
-    later OfMarks (Pair a b) h e f = let z : ◌≡◌ {A = ℕ} 0 1 = cc in omega arith
-    later OfReadings (Mark b) h e f = let z : ◌≡◌ {A = ℕ} 0 1 = cc in omega arith
-    later OfPairs (Mark b) h e f = let z : ◌≡◌ {A = ℕ} 0 1 = cc in omega arith
-    later OfMarks (Mark b) h e f = no_some (AmongDrums OfMarks) (sym h)
+    later k (Drum a) h e f = cc
+    later OfReadings (Reading a) h e f = cc
+    later OfPairs (Reading a) h e f = cc
+    later OfMarks (Reading a) h e f = cc
+    later OfReadings (Pair a b) h e f = cc
+    later OfPairs (Pair a b) h e f = cc
+    later OfMarks (Pair a b) h e f = cc
+    later OfReadings (Mark b) h e f = cc
+    later OfPairs (Mark b) h e f = cc
+    later OfMarks (Mark b) h e f = cc

@@ -1,22 +1,10 @@
 -- What the place of an entry tells.
-use Rattle.std.proofs.Common.{◌≡◌, ℕ, zero, suc, ◌+◌, ◌-◌, ◌*◌, ◌<◌, ◌≤◌, Bool, true, false, cond, eqb, ◌⊎◌, List, length, get_or, Some, None, Option, refl, ◌∙◌, subst, inl, inr, ⊎_elim, arith}
+use Rattle.std.proofs.Common.{◌≡◌, ℕ, zero, suc, ◌+◌, ◌-◌, ◌<◌, ◌≤◌, Bool, true, false, cond, ◌⊎◌, List, length, Some, None, Option, refl, ◌∙◌, subst, inl, inr, ⊎_elim, arith}
 use Rattle.std.proofs.lemmas.List.Edits.{length-between}
-use Rattle.std.proofs.lemmas.List.{get_or_past}
 use Rattle.std.proofs.lemmas.Bool.{cases_lt}
 use Rattle.std.proofs.lemmas.Bool.Decides.{nat_tests}
 use Rattle.sheet.specs.Rules.{Placed, Sized}
-use Rattle.sheet.specs.Table.{count_of, end_at, end_before, misplaced, offset_at, part_at, placed, size_at, sized, table_end}
-
--- a pair beyond the sheet has no length from 1 to 48
-pub beyond : (s : List ℕ) (i : ℕ) → length s < 2 + 4 * i + 4 → placed s i ≡ false
-beyond s i h =
-    let low : get_or s (4 + 4 * i + 1) 0 ≡ 0 = get_or_past s (4 + 4 * i + 1) 0 (omega arith) in
-    grind (arith, nat_tests)
-
--- the pair of an entry in its place lies in the sheet
-pub pair_within : (s : List ℕ) (i : ℕ) → placed s i ≡ true → 2 + 4 * i + 4 ≤ length s
-pair_within s i p =
-    ⊎_elim (λ h. let f = beyond s i h in let z : ◌≡◌ {A = ℕ} 0 1 = cc in absurd (omega arith)) (λ h. h) (cases_lt (length s) (2 + 4 * i + 4))
+use Rattle.sheet.specs.Table.{end_at, end_before, misplaced, offset_at, part_at, placed, size_at, sized}
 
 pub sized_is : (s : List ℕ) → sized s ≡ true → Sized s
 sized_is s h =
@@ -27,20 +15,11 @@ sized_is s h =
       table = grind (arith, nat_tests);
     }
 
-pub is_sized : (s : List ℕ) → 2 ≤ length s → length s ≤ 65535 → 0 < count_of s → table_end s ≤ length s → sized s ≡ true
-is_sized s a b d e = grind (arith, nat_tests)
-
 pub unsized : (s : List ℕ) → sized s ≡ false → Sized s → ⊥
-unsized s h z =
-    let e = is_sized s z.long_enough z.short_enough z.some z.table in
-    let n : ◌≡◌ {A = ℕ} 0 1 = cc in
-    omega arith
+unsized s h z = grind (arith, nat_tests)
 
 previous : (s : List ℕ) (i j : ℕ) → i ≡ j + 1 → end_before s i ≡ end_at s j
-previous s i j e =
-    let a : eqb i 0 ≡ false = grind (arith, nat_tests) in
-    let b : i - 1 ≡ j = omega arith in
-    rw (a, b)
+previous s i j e = let b : i - 1 ≡ j = omega arith in grind (arith, nat_tests)
 
 pub placed_is : (s : List ℕ) (i : ℕ) → placed s i ≡ true → Placed s i
 placed_is s i h =
@@ -53,21 +32,15 @@ placed_is s i h =
       within = grind (arith, nat_tests);
     }
 
-is_placed : (s : List ℕ) (i : ℕ) → 1 ≤ size_at s i → size_at s i ≤ 48 → table_end s ≤ offset_at s i → end_before s i ≤ offset_at s i → end_at s i ≤ length s → placed s i ≡ true
-is_placed s i a b d e f = grind (arith, nat_tests)
-
 behind : (s : List ℕ) (i : ℕ) → Placed s i → end_before s i ≤ offset_at s i
 behind s zero p = omega arith
 behind s (suc j) p = let e : suc j ≡ j + 1 = omega arith in omega (arith, previous s (suc j) j e, p.behind_previous j e)
 
 pub placed_true : (s : List ℕ) (i : ℕ) → Placed s i → placed s i ≡ true
-placed_true s i p = is_placed s i p.some p.short p.behind_table (behind s i p) p.within
+placed_true s i p = let b = behind s i p in grind (arith, nat_tests)
 
 pub unplaced : (s : List ℕ) (i : ℕ) → placed s i ≡ false → Placed s i → ⊥
-unplaced s i h p =
-    let e = placed_true s i p in
-    let n : ◌≡◌ {A = ℕ} 0 1 = cc in
-    omega arith
+unplaced s i h p = cc (placed_true s i p)
 
 -- the entries from i on, of the first m
 pub misplaced_from : (s : List ℕ) (m i : ℕ) → i < m → misplaced s (m - i) i ≡ cond (placed s i) (misplaced s (m - (i + 1)) (i + 1)) (Some i)
@@ -80,7 +53,7 @@ misplaced_none s m i h = let e : m - i ≡ 0 = omega arith in rw e
 
 none_found : (b : Bool) (r : Option ℕ) (i : ℕ) → cond b r (Some i) ≡ None → (b ≡ true) × (r ≡ None)
 none_found true r i h = (refl, h)
-none_found false r i h = let z : ◌≡◌ {A = ℕ} 0 1 = cc in absurd (omega arith)
+none_found false r i h = cc
 
 one_found : (b : Bool) (r : Option ℕ) (i n : ℕ) → cond b r (Some i) ≡ Some n → ((b ≡ true) × (r ≡ Some n)) ⊎ ((b ≡ false) × (i ≡ n))
 one_found true r i n h = inl (refl, h)
@@ -97,7 +70,7 @@ none_misplaced s (suc k) i j h a b =
 -- the first that is not, and those before it
 pub first_misplaced : (s : List ℕ) (k i n : ℕ) → misplaced s k i ≡ Some n → (n < i + k) × (placed s n ≡ false) × ((j : ℕ) → i ≤ j → j < n → placed s j ≡ true)
 unfolding misplaced
-first_misplaced s zero i n h = let z : ◌≡◌ {A = ℕ} 0 1 = cc in absurd (omega arith)
+first_misplaced s zero i n h = cc
 first_misplaced s (suc k) i n h =
     ⊎_elim
     (λ p.

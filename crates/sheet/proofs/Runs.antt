@@ -1,5 +1,5 @@
 -- One more entry of a whole sheet.
-use Rattle.std.proofs.Common.{◌≡◌, ℕ, suc, ◌+◌, ◌-◌, ◌<◌, ◌≤◌, Bool, true, false, cond, ltb, List, [], ◌∷◌, ◌++◌, Some, None, Ok, Err, Option, Result, sym, refl, ap, ◌∙◌, arith}
+use Rattle.std.proofs.Common.{◌≡◌, ℕ, suc, ◌+◌, ◌-◌, ◌<◌, ◌≤◌, Bool, true, false, cond, ltb, List, [], ◌∷◌, ◌++◌, Some, None, Ok, Err, Option, Result, sym, refl, ap, arith}
 use Rattle.std.proofs.lemmas.Bool.{ltb-true, ltb-false}
 use Rattle.fault.proofs.Passed.{with, with_more}
 use Rattle.fault.specs.Located.{then}
@@ -19,39 +19,27 @@ went true (Ok p) q q' x h =
     let f = ap (λ (z : Pace). z.0) h in
     let e : p.0 ≡ x = cc in
     let d : p.1 ≡ q'.stage = sym (ap (λ (z : Pace). z.1.stage) h) in
-    (refl, ap (λ (y : Item). Ok (y, p.1)) e ∙ ap (λ (t : Stage). Ok (x, t)) d, ap (λ (z : Pace). z.1.sheet) h, ap (λ (z : Pace). z.1.count) h, ap (λ (z : Pace). z.1.next) h)
+    (refl, (λ i. Ok (e i, d i)), ap (λ (z : Pace). z.1.sheet) h, ap (λ (z : Pace). z.1.count) h, ap (λ (z : Pace). z.1.next) h)
 went true (Err f) q q' x h =
-    let e = ap (λ (z : Pace). z.0) h in
-    let z : ◌≡◌ {A = ℕ} 0 1 = cc in
-    absurd (omega arith)
+    cc (ap (λ (z : Pace). z.0) h)
 went false r q q' x h =
-    let e = ap (λ (z : Pace). z.0) h in
-    let z : ◌≡◌ {A = ℕ} 0 1 = cc in
-    absurd (omega arith)
+    cc (ap (λ (z : Pace). z.0) h)
 
 stayed : (b : Bool) (r : Result (Item × Stage) Fault) (q q' : Progress) → ◌≡◌ {A = Pace} (Ok None, q') (cond b (moved q r) (Ok None, q)) → b ≡ false
 stayed true (Ok p) q q' h =
-    let e = ap (λ (z : Pace). z.0) h in
-    let z : ◌≡◌ {A = ℕ} 0 1 = cc in
-    absurd (omega arith)
+    cc (ap (λ (z : Pace). z.0) h)
 stayed true (Err f) q q' h =
-    let e = ap (λ (z : Pace). z.0) h in
-    let z : ◌≡◌ {A = ℕ} 0 1 = cc in
-    absurd (omega arith)
+    cc (ap (λ (z : Pace). z.0) h)
 stayed false r q q' h = refl
 
 refused : (b : Bool) (r : Result (Item × Stage) Fault) (q q' : Progress) (f : Fault) → ◌≡◌ {A = Pace} (Err f, q') (cond b (moved q r) (Ok None, q)) → (b ≡ true) × (r ≡ Err f)
 refused true (Ok p) q q' f h =
-    let e = ap (λ (z : Pace). z.0) h in
-    let z : ◌≡◌ {A = ℕ} 0 1 = cc in
-    absurd (omega arith)
+    cc (ap (λ (z : Pace). z.0) h)
 refused true (Err g) q q' f h =
     let e = ap (λ (z : Pace). z.0) h in
     (refl, cc)
 refused false r q q' f h =
-    let e = ap (λ (z : Pace). z.0) h in
-    let z : ◌≡◌ {A = ℕ} 0 1 = cc in
-    absurd (omega arith)
+    cc (ap (λ (z : Pace). z.0) h)
 
 -- a reader that answers an entry has made a step
 pub steps : (q q' : Progress) (x : Item) → ◌≡◌ {A = Pace} (Ok (Some x), q') (advanced q) → (q.next < q.count) × (step_at q.sheet q.next q.stage ≡ Ok (x, q'.stage)) × (q'.sheet ≡ q.sheet) × (q'.count ≡ q.count) × (q'.next ≡ q.next + 1)
@@ -90,7 +78,7 @@ pub step_part : (s : List ℕ) (i : ℕ) (t u : Stage) (x : Item) → step_at s 
 step_part s i t u x h = by_entry (entry_at s i) h
   where
     by_stage : (y : Said) (o : Option Stage) → standing s i y o ≡ Ok (x, u) → x.part ≡ place_at s i
-    by_stage y None e = let z : ◌≡◌ {A = ℕ} 0 1 = cc in absurd (omega arith)
+    by_stage y None e = cc
     by_stage y (Some v) e = sym (ap (λ (p : Item × Stage). p.0.part) (same (item s i y, v) (x, u) e))
       where
         same : (p q : Item × Stage) → ◌≡◌ {A = Result (Item × Stage) Fault} (Ok p) (Ok q) → p ≡ q
@@ -98,4 +86,4 @@ step_part s i t u x h = by_entry (entry_at s i) h
 
     by_entry : (r : Result Said Fault) → then (λ y. standing s i y (followed t y)) r ≡ Ok (x, u) → x.part ≡ place_at s i
     by_entry (Ok y) e = by_stage y (followed t y) e
-    by_entry (Err f) e = let z : ◌≡◌ {A = ℕ} 0 1 = cc in absurd (omega arith)
+    by_entry (Err f) e = cc

@@ -101,7 +101,7 @@ module _ (s : List ℕ) (fits : Sized s) (places : (j : ℕ) → j < count_of s 
           (subst (λ n. Refused s (EntryForm (n + 1))) l (formless xs fits places b (omega arith) (λ x q. no_form x (subst (λ n. said_of (part_at s n) ≡ Ok x) l q))))
         where
           no_form : (x : Said) → said_of (part_at s i) ≡ Ok x → ⊥
-          no_form x q = let z : ◌≡◌ {A = ℕ} 0 1 = cc in omega arith
+          no_form x q = cc
 
 read_table : (s : List ℕ) (b : Bool) (o : Option ℕ) → sized s ≡ b → table.misplaced s (count_of s) 0 ≡ o → Read s (then (λ m. items_from s m 0 BeforePlan) (cond b (unless (count_of s) o) (Err SheetSize)))
 read_table s false o h g = wrong_size (unsized s h)
