@@ -101,6 +101,7 @@ impl Plan {
     }
 }
 
+// Each conversion has an arm a case, since every case of an entry holds its own part of the sheet.
 impl<'a> Entry<'a> {
     // The entry that says this in that part of a sheet.
     pub fn new(part: Part<'a>, said: Said) -> Entry<'a>

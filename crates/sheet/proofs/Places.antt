@@ -1,10 +1,11 @@
 -- What the place of an entry tells.
-use Rattle.std.proofs.Common.{◌≡◌, ℕ, zero, suc, ◌+◌, ◌-◌, ◌<◌, ◌≤◌, Bool, true, false, cond, ◌⊎◌, List, length, Some, None, Option, refl, ◌∙◌, subst, inl, inr, ⊎_elim, arith}
+use Rattle.std.proofs.Common.{◌≡◌, ℕ, zero, suc, ◌+◌, ◌-◌, ◌*◌, ◌<◌, ◌≤◌, Bool, true, false, cond, ◌⊎◌, List, length, Some, None, Ok, Err, Option, refl, ◌∙◌, subst, inl, inr, ⊎_elim, arith}
 use Rattle.std.proofs.lemmas.List.Edits.{length-between}
 use Rattle.std.proofs.lemmas.Bool.{cases_lt}
 use Rattle.std.proofs.lemmas.Bool.Decides.{nat_tests}
+use Rattle.fault.specs.declared.Fault.TheVariants.{SheetSize}
 use Rattle.sheet.specs.Rules.{Placed, Sized}
-use Rattle.sheet.specs.Table.{end_at, end_before, misplaced, offset_at, part_at, placed, size_at, sized}
+use Rattle.sheet.specs.Table.{count_of, end_at, end_before, misplaced, offset_at, part_at, placed, size_at, sized, table_of, unless}
 
 pub sized_is : (s : List ℕ) → sized s ≡ true → Sized s
 sized_is s h =
@@ -78,6 +79,18 @@ first_misplaced s (suc k) i n h =
     (omega (arith, q.0), q.1, λ j a b. ⊎_elim (λ l. q.2 j (omega arith) b) (λ l. let e : j ≡ i = omega arith in rw e p.0) (cases_lt i j)))
     (λ p. (omega arith, subst (λ m. placed s m ≡ false) p.1 p.0, λ j a b. absurd (omega arith)))
     (one_found (placed s i) (misplaced s k (i + 1)) i n h)
+
+-- where the table is sound, each entry is in its place, and its pair lies in the sheet
+pub sound_place : (s : List ℕ) (m i : ℕ) → table_of s ≡ Ok m → i < m → (placed s i ≡ true) × (2 + 4 * i + 4 ≤ length s) × (end_at s i ≤ length s)
+sound_place s m i h l = by_table (sized s) (misplaced s (count_of s) 0) refl refl h
+  where
+    by_table : (b : Bool) (o : Option ℕ) → sized s ≡ b → misplaced s (count_of s) 0 ≡ o → cond b (unless (count_of s) o) (Err SheetSize) ≡ Ok m → (placed s i ≡ true) × (2 + 4 * i + 4 ≤ length s) × (end_at s i ≤ length s)
+    by_table false o e g h = cc
+    by_table true (Some j) e g h = cc
+    by_table true None e g h =
+        let n : count_of s ≡ m = cc in
+        let p = none_misplaced s (count_of s) 0 i g (omega arith) (omega arith) in
+        (p, omega (arith, (sized_is s e).table), (placed_is s i p).within)
 
 -- an entry ends before any later one begins
 pub apart : (s : List ℕ) (i j : ℕ) → ((k : ℕ) → k ≤ j → Placed s k) → i < j → end_at s i ≤ offset_at s j

@@ -1,5 +1,5 @@
 // The table of a sheet: how many entries it has, and where each of them lies.
-ghost use Rattle.std.specs.Prelude.{◌≡◌, ◌+◌, ◌*◌, ◌<◌, ◌≤◌, true, false, length, IfOk, IfErr};
+ghost use Rattle.std.specs.Prelude.{◌≡◌, ◌+◌, ◌*◌, ◌<◌, ◌≤◌, length};
 ghost use Rattle.sheet.specs.Table.{end_at, offset_at, placed, table_end, table_of, word_at};
 
 use fault::Fault;
@@ -28,7 +28,7 @@ fn table_end(sheet: &[u8]) -> usize
 }
 
 // Where entry i lies.
-fn span_at(sheet: &[u8], i: u16) -> Range<usize>
+pub(crate) fn span_at(sheet: &[u8], i: u16) -> Range<usize>
     requires { 2 + 4 * i + 4 ≤ length sheet.now }
     ensures start { result.start ≡ offset_at sheet.now i }
     ensures end { result.end ≡ end_at sheet.now i }
@@ -38,30 +38,22 @@ fn span_at(sheet: &[u8], i: u16) -> Range<usize>
     start..start + usize::from(word(sheet, at + 2))
 }
 
-// Where entry i lies, if it lies behind the table, behind the entry before it, and within the sheet.
-pub(crate) fn place(sheet: &[u8], i: u16) -> Result<Range<usize>, Fault>
-    requires { i < 65535 }
-    ensures lies { IfOk result (λ r. (placed sheet.now i ≡ true) × (r.start ≡ offset_at sheet.now i) × (r.end ≡ end_at sheet.now i)) }
-    ensures stray { IfErr result (λ f. (placed sheet.now i ≡ false) × (f ≡ Fault.EntryPlace (i + 1))) }
+// Whether entry i lies where an entry may: behind the table, behind the entry before it, and within the sheet.
+fn is_placed(sheet: &[u8], i: u16) -> bool
+    ensures { result ≡ placed sheet.now i }
 {
-    let stray = Fault::EntryPlace(i + 1);
     if 2 + 4 * usize::from(i) + 4 > sheet.len() {
-        return Err(stray);
+        return false;
     }
     let here = span_at(sheet, i);
     let before = match i.checked_sub(1) {
         Some(previous) => span_at(sheet, previous).end,
         None => 0,
     };
-    if (1..=LONGEST_ENTRY).contains(&here.len())
+    (1..=LONGEST_ENTRY).contains(&here.len())
         && here.start >= table_end(sheet)
         && here.start >= before
         && here.end <= sheet.len()
-    {
-        Ok(here)
-    } else {
-        Err(stray)
-    }
 }
 
 // The number of entries of a sheet whose size and places are as they should be.
@@ -77,7 +69,9 @@ pub(crate) fn table(sheet: &[u8]) -> Result<u16, Fault>
         return Err(Fault::SheetSize);
     }
     for i in 0..count {
-        place(sheet, i)?;
+        if !is_placed(sheet, i) {
+            return Err(Fault::EntryPlace(i + 1));
+        }
     }
     Ok(count)
 }
