@@ -9,7 +9,7 @@ use Rattle.bench.specs.Ledger.{Holds, Line}
 use Rattle.rows.specs.declared.page.Page.{Page}
 use Rattle.sheet.proofs.Runs.{Pace, refuses, steps, stops}
 use Rattle.sheet.specs.Reading.{Item, Progress, advanced}
-use Rattle.course.specs.Course.{Course, Coursed, carried, course_from, course_of}
+use Rattle.course.specs.Course.{Course, carried, course_from, course_of}
 
 module _ {R X : Type 0} (m : Meaning R X) (b : Said → Option R) (n size : ℕ) (q q' : Progress) (x : ℕ) (ls : List (Line R)) where
   -- an entry was read and carried out
@@ -45,7 +45,7 @@ module _ {R X : Type 0} (m : Meaning R X) (b : Said → Option R) (n size : ℕ)
       rw k
 
 -- a course that came to lines which the pages show
-pub came : {R X : Type 0} (m : Meaning R X) (st : X → Bool) (n : ℕ) (qs : List (Page X)) (r : Result (Unit {0}) Fault) (c : Course R) (ks : List (Line R)) → c ≡ (ks, r) → Holds m st n ks qs → Coursed m st n qs r c
+pub came : {R X : Type 0} (m : Meaning R X) (st : X → Bool) (n : ℕ) (qs : List (Page X)) (r : Result (Unit {0}) Fault) (c : Course R) (ks : List (Line R)) → c ≡ (ks, r) → Holds m st n ks qs → (r ≡ c.1) × Holds m st n c.0 qs
 came m st n qs r c ks e h = (sym (ap (λ (x : Course _). x.1) e), subst (λ t. Holds m st n t qs) (sym (ap (λ (x : Course _). x.0) e)) h)
 
 -- a refusal that was met at an entry

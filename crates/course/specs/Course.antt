@@ -59,6 +59,10 @@ abbrev pub Carried : {R X : Type 0} → Meaning R X → (X → Bool) → ℕ →
 Carried m st n ls qs (Ok y) x = (ks : List (Line _)) × (x ≡ Ok (y, ks)) × Holds m st n ks qs
 Carried m st n ls qs (Err f) x = (x ≡ Err f) × Holds m st n ls qs
 
+-- the same of a call, whatever lines its pages ps show: it does what f says of them
+abbrev pub Stepped : {R X : Type 0} → Meaning R X → (X → Bool) → ℕ → (List (Line R) → Result (ℕ × List (Line R)) Fault) → List (Page X) → List (Page X) → Result ℕ Fault → Type 0
+Stepped m st n f ps qs r = (ls : List (Line _)) → Holds m st n ls ps → Carried m st n ls qs r (f ls)
+
 -- the same of a whole course
-abbrev pub Coursed : {R X : Type 0} → Meaning R X → (X → Bool) → ℕ → List (Page X) → Result (Unit {0}) Fault → Course R → Type 0
-Coursed m st n qs r c = (r ≡ c.1) × Holds m st n c.0 qs
+abbrev pub Coursed : {R X : Type 0} → Meaning R X → (X → Bool) → ℕ → (List (Line R) → Course R) → List (Page X) → List (Page X) → Result (Unit {0}) Fault → Type 0
+Coursed m st n f ps qs r = (ls : List (Line _)) → Holds m st n ls ps → (r ≡ (f ls).1) × Holds m st n (f ls).0 qs

@@ -1,7 +1,6 @@
 // The entries behind the plan, carried out on a bench.
-ghost use Rattle.std.specs.Prelude.{◌≡◌, List, length};
-ghost use Rattle.bench.specs.Ledger.{Holds, Line};
-ghost use Rattle.course.specs.Course.{Carried, Coursed, booking, carried, course_of, drum, natural};
+ghost use Rattle.std.specs.Prelude.{◌≡◌, length};
+ghost use Rattle.course.specs.Course.{Coursed, Stepped, booking, carried, course_of, drum, natural};
 ghost use Rattle.sheet.specs.Reading.{progress};
 
 use crate::booked::Booked;
@@ -12,14 +11,11 @@ use method::Method;
 use rows::Page;
 use sheet::Reader;
 
-// The number of the refusal to open a name that is open.
-const NAME_OPEN: u8 = 10;
-
 // A number of a sheet as a name or a planned number: a negative one is neither, and neither is 0.
 pub(crate) fn to_natural(number: i32) -> u32
     ensures { result ≡ natural number }
 {
-    if number < 0 { 0 } else { number as u32 }
+    u32::try_from(number).unwrap_or(0)
 }
 
 // Names the page for what follows, and opens it where it is not open.
@@ -28,17 +24,14 @@ fn call_drum<M: Method>(
     pages: &mut [Page<M::Numbers>],
     name: u32,
 ) -> Result<u32, Fault>
-    ensures { (ls : List (Line M.Reading)) → Holds (M.Method.meaning bench.now.method) M.Method.stands bench.now.n ls pages.old → Carried (M.Method.meaning bench.now.method) M.Method.stands bench.now.n ls pages.new result (drum (length pages.old) name ls) }
+    ensures { Stepped (M.Method.meaning bench.now.method) M.Method.stands bench.now.n (drum (length pages.old) name) pages.old pages.new result }
 {
     match bench.open(pages, name) {
         Ok(()) => Ok(name),
-        Err(fault) => {
-            if fault.number() == NAME_OPEN {
-                Ok(name)
-            } else {
-                Err(fault)
-            }
-        }
+        Err(fault) => match fault {
+            Fault::NameOpen(_) => Ok(name),
+            _ => Err(fault),
+        },
     }
 }
 
@@ -49,11 +42,9 @@ fn enter<M: Method>(
     current: u32,
     booked: Option<M::Reading>,
 ) -> Result<u32, Fault>
-    ensures { (ls : List (Line M.Reading)) → Holds (M.Method.meaning bench.now.method) M.Method.stands bench.now.n ls pages.old → Carried (M.Method.meaning bench.now.method) M.Method.stands bench.now.n ls pages.new result (booking (M.Method.meaning bench.now.method) bench.now.n (length pages.old) booked current ls) }
+    ensures { Stepped (M.Method.meaning bench.now.method) M.Method.stands bench.now.n (booking (M.Method.meaning bench.now.method) bench.now.n (length pages.old) booked current) pages.old pages.new result }
 {
-    let Some(reading) = booked else {
-        return Err(Fault::EntryOrder(0));
-    };
+    let reading = booked.ok_or(Fault::EntryOrder(0))?;
     bench.read(pages, current, reading)?;
     Ok(current)
 }
@@ -67,7 +58,7 @@ fn carry_entry<M: Method>(
 ) -> Result<u32, Fault>
 where
     M::Reading: Booked,
-    ensures { (ls : List (Line M.Reading)) → Holds (M.Method.meaning bench.now.method) M.Method.stands bench.now.n ls pages.old → Carried (M.Method.meaning bench.now.method) M.Method.stands bench.now.n ls pages.new result (carried (M.Method.meaning bench.now.method) M.Reading.Booked.booked bench.now.n (length pages.old) current said ls) }
+    ensures { Stepped (M.Method.meaning bench.now.method) M.Method.stands bench.now.n (carried (M.Method.meaning bench.now.method) M.Reading.Booked.booked bench.now.n (length pages.old) current said) pages.old pages.new result }
 {
     match said {
         Said::Drum(number) => call_drum(bench, pages, to_natural(number)),
@@ -83,7 +74,7 @@ pub(crate) fn carry_entries<M: Method>(
 ) -> Result<(), Fault>
 where
     M::Reading: Booked,
-    ensures { (ls : List (Line M.Reading)) → Holds (M.Method.meaning bench.now.method) M.Method.stands bench.now.n ls pages.old → Coursed (M.Method.meaning bench.now.method) M.Method.stands bench.now.n pages.new result (course_of (M.Method.meaning bench.now.method) M.Reading.Booked.booked bench.now.n (length pages.old) (progress reader.entry) 0 ls) }
+    ensures { Coursed (M.Method.meaning bench.now.method) M.Method.stands bench.now.n (course_of (M.Method.meaning bench.now.method) M.Reading.Booked.booked bench.now.n (length pages.old) (progress reader.entry) 0) pages.old pages.new result }
 {
     let mut current = 0u32;
     while let Some(entry) = reader.read()? {

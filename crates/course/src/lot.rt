@@ -23,10 +23,7 @@ fn set_up<M: Method + Copy>(
 ) -> Result<Bench<M>, Fault>
     ensures { MatchResult result (λ b. (ready (M.Method.meaning method) (length pages.old) n ≡ Ok tt) × (b.method ≡ method) × (b.n ≡ natural n) × Holds (M.Method.meaning method) M.Method.stands (natural n) [] pages.new) (λ f. (ready (M.Method.meaning method) (length pages.old) n ≡ Err f) × (pages.new ≡ pages.old)) }
 {
-    match Bench::set_up(method, to_natural(n), pages) {
-        Ok(bench) => Ok(bench),
-        Err(refusal) => Err(refusal.0.at(1)),
-    }
+    Bench::set_up(method, to_natural(n), pages).map_err(|(fault, _)| fault.at(1))
 }
 
 // Closes the bench, where the planned number of readings stands, and judges the lot.
@@ -39,8 +36,7 @@ fn close<M: Method + Copy>(bench: Bench<M>, pages: &[Page<M::Numbers>]) -> Resul
             let _ = lot.into_method();
             Ok(verdict)
         }
-        Err(refusal) => {
-            let (fault, bench) = refusal;
+        Err((fault, bench)) => {
             let _ = bench.into_method();
             Err(fault)
         }
