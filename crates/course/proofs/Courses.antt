@@ -1,5 +1,5 @@
 -- One more entry of a course.
-use Rattle.std.proofs.Common.{◌≡◌, ℕ, suc, ◌+◌, ◌-◌, Bool, List, Some, None, Ok, Err, Option, Result, sym, refl, ap, subst, arith}
+use Rattle.std.proofs.Common.{◌≡◌, ℕ, suc, ◌+◌, ◌-◌, Bool, List, length, Some, None, Ok, Err, Option, Result, sym, refl, ap, ◌∙◌, subst, arith}
 use Rattle.entry.specs.declared.kinds.Said.{Said}
 use Rattle.fault.specs.Faults.{met}
 use Rattle.fault.specs.Located.{located}
@@ -9,7 +9,9 @@ use Rattle.bench.specs.Ledger.{Holds, Line}
 use Rattle.rows.specs.declared.page.Page.{Page}
 use Rattle.sheet.proofs.Runs.{Pace, refuses, steps, stops}
 use Rattle.sheet.specs.Reading.{Item, Progress, advanced}
-use Rattle.course.specs.Course.{Course, carried, course_from, course_of}
+use Rattle.bench.specs.declared.Bench.{Bench}
+use Rattle.course.specs.Course.{Carried, Course, Stepped, carried, course_from, course_of}
+use Rattle.course.specs.declared.entries.Inspection.{Inspection}
 
 module _ {R X : Type 0} (m : Meaning R X) (b : Said → Option R) (n size : ℕ) (q q' : Progress) (x : ℕ) (ls : List (Line R)) where
   -- an entry was read and carried out
@@ -44,15 +46,55 @@ module _ {R X : Type 0} (m : Meaning R X) (b : Said → Option R) (n size : ℕ)
       let k : q.count - q.next ≡ 0 = omega (arith, w) in
       rw k
 
--- a course that came to lines which the pages show
-pub came : {R X : Type 0} (m : Meaning R X) (st : X → Bool) (n : ℕ) (qs : List (Page X)) (r : Result (Unit {0}) Fault) (c : Course R) (ks : List (Line R)) → c ≡ (ks, r) → Holds m st n ks qs → (r ≡ c.1) × Holds m st n c.0 qs
-came m st n qs r c ks e h = (sym (ap (λ (x : Course _). x.1) e), subst (λ t. Holds m st n t qs) (sym (ap (λ (x : Course _). x.0) e)) h)
-
 -- a refusal that was met at an entry
 pub met_at : {A : Type 0} (i : ℕ) (r : Result A Fault) (f : Fault) → ◌≡◌ {A = Result A Fault} (Err f) (located i r) → (g : Fault) × (r ≡ Err g) × (f ≡ met i g)
-met_at i (Ok a) f h = let z : ◌≡◌ {A = ℕ} 0 1 = cc in absurd (omega arith)
+met_at i (Ok a) f h = absurd (cc)
 met_at i (Err g) f h = (g, refl, cc)
 
--- a course that was refused at these lines
-abbrev pub broken : {R : Type 0} → List (Line R) → Fault → Course R
-broken ks f = (ks, Err f)
+-- an inspection d of a sheet that was read to q began on the bench b, with the pages ps and at q₀: its pages show lines
+-- from which the course that is left comes to what the whole course does
+module _ {B R X : Type 0} (m : B → Meaning R X) (st : X → Bool) (f : Said → Option R) (b : Bench B) (ps : List (Page X)) (q₀ : Progress) where
+  abbrev pub whole : List (Line R) → Course R
+  whole ls = course_of (m b.method) f b.n (length ps) q₀ 0 ls
+
+  -- the course of lines came to this answer, and the pages qs show what it left
+  abbrev pub Came : List (Line R) → List (Page X) → Result (Unit {0}) Fault → Type 0
+  Came ls qs r = (r ≡ (whole ls).1) × Holds (m b.method) st b.n (whole ls).0 qs
+
+  came : (ls ks : List (Line R)) (qs : List (Page X)) (r : Result (Unit {0}) Fault) → whole ls ≡ (ks, r) → Holds (m b.method) st b.n ks qs → Came ls qs r
+  came ls ks qs r e h = (sym (ap (λ (x : Course _). x.1) e), subst (λ t. Holds (m b.method) st b.n t qs) (sym (ap (λ (x : Course _). x.0) e)) h)
+
+  module _ {T : Type 0} where
+    abbrev pub Along : Inspection B R T X → Progress → Type 0
+    Along d q =
+        (d.bench.now ≡ b) × (length d.pages.now ≡ length ps)
+        × ((ls : List (Line R)) → Holds (m b.method) st b.n ls ps
+        → (ks : List (Line R)) × Holds (m b.method) st b.n ks d.pages.now × (whole ls ≡ course_of (m b.method) f b.n (length ps) q d.current ks))
+
+    -- a step from there, by the bench and the row that were there first
+    step : (d e : Inspection B R T X) (x : Said) (r : Result (Unit {0}) Fault) → d.bench.now ≡ b → length d.pages.now ≡ length ps → Stepped m st (carried (m d.bench.now.method) f d.bench.now.n (length d.pages.now) d.current x) d e r → (ks : List (Line R)) → Holds (m b.method) st b.n ks d.pages.now → Carried (m b.method) st b.n ks e.current e.pages.now r (carried (m b.method) f b.n (length ps) d.current x ks)
+    step d e x r same size s ks h =
+        subst (λ i. Carried (m b.method) st b.n ks e.current e.pages.now r (carried (m b.method) f b.n i d.current x ks)) size
+        (subst (λ (z : Bench B). Holds (m z.method) st z.n ks d.pages.now → Carried (m z.method) st z.n ks e.current e.pages.now r (carried (m z.method) f z.n (length d.pages.now) d.current x ks)) same (s.3 ks) h)
+
+    module _ (d : Inspection B R T X) (q q' : Progress) (along : Along d q) where
+      pub along_more : (e : Inspection B R T X) (x : Item) (u : Unit {0}) → ◌≡◌ {A = Pace} (Ok (Some x), q') (advanced q) → Stepped m st (carried (m d.bench.now.method) f d.bench.now.n (length d.pages.now) d.current x.says) d e (Ok u) → Along e q'
+      along_more e x u h s =
+          let on : (ls : List (Line R)) → Holds (m b.method) st b.n ls ps → (ks : List (Line R)) × Holds (m b.method) st b.n ks e.pages.now × (whole ls ≡ course_of (m b.method) f b.n (length ps) q' e.current ks) =
+          λ ls held.
+          let w = along.2 ls held in
+          let c = step d e x.says (Ok u) along.0 along.1 s w.0 w.1 in
+          (c.0, c.2, w.2 ∙ goes (m b.method) f b.n (length ps) q q' d.current w.0 x e.current c.0 h c.1) in
+          (s.0 ∙ along.0, s.2 ∙ along.1, on)
+
+      pub along_denied : (e : Inspection B R T X) (x : Item) (g : Fault) → ◌≡◌ {A = Pace} (Ok (Some x), q') (advanced q) → Stepped m st (carried (m d.bench.now.method) f d.bench.now.n (length d.pages.now) d.current x.says) d e (Err g) → (ls : List (Line R)) → Holds (m b.method) st b.n ls ps → Came ls e.pages.now (Err (met (q.next + 1) g))
+      along_denied e x g h s ls held =
+          let w = along.2 ls held in
+          let c = step d e x.says (Err g) along.0 along.1 s w.0 w.1 in
+          came ls w.0 e.pages.now _ (w.2 ∙ denied (m b.method) f b.n (length ps) q q' d.current w.0 x g h c.0) c.1
+
+      pub along_unread : (g : Fault) → ◌≡◌ {A = Pace} (Err g, q') (advanced q) → (ls : List (Line R)) → Holds (m b.method) st b.n ls ps → Came ls d.pages.now (Err g)
+      along_unread g h ls held = let w = along.2 ls held in came ls w.0 d.pages.now (Err g) (w.2 ∙ unread (m b.method) f b.n (length ps) q q' d.current w.0 g h) w.1
+
+      pub along_ended : ◌≡◌ {A = Pace} (Ok None, q') (advanced q) → (ls : List (Line R)) → Holds (m b.method) st b.n ls ps → Came ls d.pages.now (Ok tt)
+      along_ended h ls held = let w = along.2 ls held in came ls w.0 d.pages.now (Ok tt) (w.2 ∙ ends (m b.method) f b.n (length ps) q q' d.current w.0 h) w.1

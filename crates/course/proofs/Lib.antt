@@ -1,5 +1,4 @@
 pub mod Drums
 pub mod Courses
 pub mod Readings
-pub mod Lots
 pub mod Samples

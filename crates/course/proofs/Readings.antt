@@ -60,22 +60,22 @@ Lines R = List (Line R)
 called : {R : Type 0} (a b c : Bool) (x y : ℕ) (ls ks : Lines R) → ◌≡◌ {A = Result (ℕ × Lines R) Fault} (cond a (cond b (Ok (x, ls)) (cond c (Ok (x, ls ++ line x [] ∷ [])) (Err (RowFull 0)))) (Err (NameRange 0))) (Ok (y, ks)) → standing ls ≡ standing ks
 called {R} true true c x y ls ks h = let e : ◌≡◌ {A = ℕ × Lines R} (x, ls) (y, ks) = cc in ap (λ (p : ℕ × Lines _). standing p.1) e
 called {R} true false true x y ls ks h = let e : ◌≡◌ {A = ℕ × Lines R} (x, ls ++ line x [] ∷ []) (y, ks) = cc in sym (standing_push x ls) ∙ ap (λ (p : ℕ × Lines _). standing p.1) e
-called {R} true false false x y ls ks h = let z : ◌≡◌ {A = ℕ} 0 1 = cc in absurd (omega arith)
-called {R} false b c x y ls ks h = let z : ◌≡◌ {A = ℕ} 0 1 = cc in absurd (omega arith)
+called {R} true false false x y ls ks h = absurd (cc)
+called {R} false b c x y ls ks h = absurd (cc)
 
 entered : {R : Type 0} (a b c d : Bool) (js ks : Lines R) → ◌≡◌ {A = Result (Lines R) Fault} (cond a (cond b (cond c (cond d (Ok js) (Err (PlanFull 0))) (Err (ReadingNotTaken 0))) (Err (NameNotOpen 0))) (Err (NameRange 0))) (Ok ks) → (b ≡ true) × (js ≡ ks)
 entered {R} true true true true js ks h = (refl, cc)
-entered {R} true true true false js ks h = let z : ◌≡◌ {A = ℕ} 0 1 = cc in absurd (omega arith)
-entered {R} true true false d js ks h = let z : ◌≡◌ {A = ℕ} 0 1 = cc in absurd (omega arith)
-entered {R} true false c d js ks h = let z : ◌≡◌ {A = ℕ} 0 1 = cc in absurd (omega arith)
-entered {R} false b c d js ks h = let z : ◌≡◌ {A = ℕ} 0 1 = cc in absurd (omega arith)
+entered {R} true true true false js ks h = absurd (cc)
+entered {R} true true false d js ks h = absurd (cc)
+entered {R} true false c d js ks h = absurd (cc)
+entered {R} false b c d js ks h = absurd (cc)
 
 same_lines : {R : Type 0} (x y : ℕ) (js ks : Lines R) → ◌≡◌ {A = Result (ℕ × Lines R) Fault} (Ok (x, js)) (Ok (y, ks)) → js ≡ ks
 same_lines {R} x y js ks h = let e : ◌≡◌ {A = ℕ × Lines R} (x, js) (y, ks) = cc in ap (λ (p : ℕ × Lines _). p.1) e
 
 module _ {R X : Type 0} (m : Meaning R X) (f : Said → Option R) (n size : ℕ) where
   one_booked : (x y : ℕ) (o : Option R) (ls ks : Lines R) → booking m n size o x ls ≡ Ok (y, ks) → IsPermutation (some_of o ++ standing ls) (standing ks)
-  one_booked x y None ls ks h = let z : ◌≡◌ {A = ℕ} 0 1 = cc in absurd (omega arith)
+  one_booked x y None ls ks h = absurd (cc)
   one_booked x y (Some r) ls ks h =
       let p = then_ok (λ js. Ok (x, js)) (reading m n size x r ls) (y, ks) h in
       let q = entered (named x) (is_open x ls) (m.takes r) (ltb (length (standing ls)) n) (add x (r ∷ []) ls) p.0 p.1 in
@@ -94,8 +94,7 @@ onward_ok : {R A : Type 0} (ls ks : Lines R) (f : A → Course R) (r : Result A 
 onward_ok ls ks f (Ok a) h = (a, refl, h)
 onward_ok ls ks f (Err e) h =
     let g = ap (λ (x : Course _). x.1) h in
-    let z : ◌≡◌ {A = ℕ} 0 1 = cc in
-    absurd (omega arith)
+    absurd (cc)
 
 -- the entries of a course that was not refused are those of the sheet, and their readings stand
 pub record Made {R : Type 0} (f : Said → Option R) (s : List ℕ) (j i : ℕ) (t : Stage) (ls ks : Lines R) : Type 0 where

@@ -26,11 +26,11 @@ use Rattle.course.specs.Sampled.{Sampled}
 -- a bench that was set up has a planned number of at least 1
 number_is : (n : ℤ) (a b : Bool) → ◌≡◌ {A = Result (Unit {0}) Fault} (cond (leb 1 (natural n) && a) (cond b (Ok tt) (Err (RowSize 0))) (Err (PlannedNumber 0))) (Ok tt) → n ≡ pos (natural n)
 number_is (pos n) a b h = refl
-number_is (negsuc n) a b h = let z : ◌≡◌ {A = ℕ} 0 1 = cc in absurd (omega arith)
+number_is (negsuc n) a b h = absurd (cc)
 
 -- a lot that was closed
 closing : (a : Bool) (f : Fault) (r v : Verdict) → cond a (Err f) (Ok r) ≡ Ok v → (a ≡ false) × (v ≡ r)
-closing true f r v h = let z : ◌≡◌ {A = ℕ} 0 1 = cc in absurd (omega arith)
+closing true f r v h = absurd (cc)
 closing false f r v h = (refl, cc)
 
 -- a reader behind the plan of a sheet of so many entries

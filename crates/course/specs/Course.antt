@@ -11,6 +11,7 @@ use Rattle.entry.specs.declared.kinds.Said.{Said}
 use Rattle.entry.specs.declared.kinds.Said.TheVariants.{Planned, Drum, Reading, Pair, Mark}
 use Rattle.sheet.specs.Reading.{Progress, step_at}
 use Rattle.sheet.specs.declared.order.Stage.{Stage}
+use Rattle.course.specs.declared.entries.Inspection.{Inspection}
 
 -- a number of a sheet as a name or a planned number; a negative one counts as 0, which is neither
 abbrev pub natural : ℤ → ℕ
@@ -54,15 +55,19 @@ module _ {R X : Type 0} (m : Meaning R X) (f : Said → Option R) (n pages : ℕ
   abbrev pub course_of : Progress → ℕ → List (Line R) → Course R
   course_of q x ls = course_from q.sheet (q.count - q.next) q.next q.stage x ls
 
--- a call on pages that show lines answered r, and its pages show the lines after what x says
-abbrev pub Carried : {R X : Type 0} → Meaning R X → (X → Bool) → ℕ → List (Line R) → List (Page X) → Result ℕ Fault → Result (ℕ × List (Line R)) Fault → Type 0
-Carried m st n ls qs (Ok y) x = (ks : List (Line _)) × (x ≡ Ok (y, ks)) × Holds m st n ks qs
-Carried m st n ls qs (Err f) x = (x ≡ Err f) × Holds m st n ls qs
+-- a call on pages that show the lines ls answered r: they show the lines after what x says, and the name y is the one
+-- for what follows
+abbrev pub Carried : {R X : Type 0} → Meaning R X → (X → Bool) → ℕ → List (Line R) → ℕ → List (Page X) → Result (Unit {0}) Fault → Result (ℕ × List (Line R)) Fault → Type 0
+Carried m st n ls y qs (Ok u) x = (ks : List (Line _)) × (x ≡ Ok (y, ks)) × Holds m st n ks qs
+Carried m st n ls y qs (Err f) x = (x ≡ Err f) × Holds m st n ls qs
 
--- the same of a call, whatever lines its pages ps show: it does what f says of them
-abbrev pub Stepped : {R X : Type 0} → Meaning R X → (X → Bool) → ℕ → (List (Line R) → Result (ℕ × List (Line R)) Fault) → List (Page X) → List (Page X) → Result ℕ Fault → Type 0
-Stepped m st n f ps qs r = (ls : List (Line _)) → Holds m st n ls ps → Carried m st n ls qs r (f ls)
+-- an inspection d that answered r and came to e: it keeps its bench and its row, and whatever lines its pages show, it
+-- does what f says of them
+abbrev pub Stepped : {B R T X : Type 0} → (B → Meaning R X) → (X → Bool) → (List (Line R) → Result (ℕ × List (Line R)) Fault) → Inspection B R T X → Inspection B R T X → Result (Unit {0}) Fault → Type 0
+Stepped m st f d e r =
+    (e.bench.now ≡ d.bench.now) × (e.pages.ghost_name ≡ d.pages.ghost_name) × (length e.pages.now ≡ length d.pages.now)
+    × ((ls : List (Line _)) → Holds (m d.bench.now.method) st d.bench.now.n ls d.pages.now → Carried (m d.bench.now.method) st d.bench.now.n ls e.current e.pages.now r (f ls))
 
--- the same of a whole course
+-- a whole course on pages ps, whatever lines they show
 abbrev pub Coursed : {R X : Type 0} → Meaning R X → (X → Bool) → ℕ → (List (Line R) → Course R) → List (Page X) → List (Page X) → Result (Unit {0}) Fault → Type 0
 Coursed m st n f ps qs r = (ls : List (Line _)) → Holds m st n ls ps → (r ≡ (f ls).1) × Holds m st n (f ls).0 qs

@@ -6,6 +6,7 @@ ghost use Rattle.entry.specs.declared.kinds.Said.{Said as Entry};
 use entry::Said;
 use through::difference::Pair;
 
+// No TryFrom: entries, numbers and pairs are types of other crates, so its impls may not stand here.
 pub trait Booked: Sized {
     // the reading that an entry books
     ghost booked: { Entry → some_or_none Self };

@@ -18,51 +18,47 @@ pub(crate) fn to_natural(number: i32) -> u32
     u32::try_from(number).unwrap_or(0)
 }
 
-// Names the page for what follows, and opens it where it is not open.
-fn call_drum<M: Method>(
-    bench: &Bench<M>,
-    pages: &mut [Page<M::Numbers>],
-    name: u32,
-) -> Result<u32, Fault>
-    ensures { Stepped (M.Method.meaning bench.now.method) M.Method.stands bench.now.n (drum (length pages.old) name) pages.old pages.new result }
-{
-    match bench.open(pages, name) {
-        Ok(()) => Ok(name),
-        Err(fault) => match fault {
-            Fault::NameOpen(_) => Ok(name),
-            _ => Err(fault),
-        },
+// A bench at work on a sheet: its pages, and the name that was called last.
+#[derive(Drop)]
+struct Inspection<'a, 'b, M: Method> {
+    bench: &'a Bench<M>,
+    pages: &'b mut [Page<M::Numbers>],
+    current: u32,
+}
+
+impl<'a, 'b, M: Method> Inspection<'a, 'b, M> {
+    // Names the page for what follows, and opens it where it is not open.
+    fn call_drum(&mut self, name: u32) -> Result<(), Fault>
+        ensures { Stepped M.Method.meaning M.Method.stands (drum (length self.old.pages.now) name) self.old self.new result }
+    {
+        if let Err(fault) = self.bench.open(self.pages, name) {
+            match fault {
+                Fault::NameOpen(_) => {}
+                _ => return Err(fault),
+            }
+        }
+        self.current = name;
+        Ok(())
     }
-}
 
-// Enters what an entry books on the page named last; an entry that books nothing has no place here.
-fn enter<M: Method>(
-    bench: &Bench<M>,
-    pages: &mut [Page<M::Numbers>],
-    current: u32,
-    booked: Option<M::Reading>,
-) -> Result<u32, Fault>
-    ensures { Stepped (M.Method.meaning bench.now.method) M.Method.stands bench.now.n (booking (M.Method.meaning bench.now.method) bench.now.n (length pages.old) booked current) pages.old pages.new result }
-{
-    let reading = booked.ok_or(Fault::EntryOrder(0))?;
-    bench.read(pages, current, reading)?;
-    Ok(current)
-}
+    // Enters what an entry books on the page named last; an entry that books nothing has no place here.
+    fn enter(&mut self, booked: Option<M::Reading>) -> Result<(), Fault>
+        ensures { Stepped M.Method.meaning M.Method.stands (booking (M.Method.meaning self.old.bench.now.method) self.old.bench.now.n (length self.old.pages.now) booked self.old.current) self.old self.new result }
+    {
+        let reading = booked.ok_or(Fault::EntryOrder(0))?;
+        self.bench.read(self.pages, self.current, reading)
+    }
 
-// Carries out what an entry says, and tells which page is named after it.
-fn carry_entry<M: Method>(
-    bench: &Bench<M>,
-    pages: &mut [Page<M::Numbers>],
-    current: u32,
-    said: Said,
-) -> Result<u32, Fault>
-where
-    M::Reading: Booked,
-    ensures { Stepped (M.Method.meaning bench.now.method) M.Method.stands bench.now.n (carried (M.Method.meaning bench.now.method) M.Reading.Booked.booked bench.now.n (length pages.old) current said) pages.old pages.new result }
-{
-    match said {
-        Said::Drum(number) => call_drum(bench, pages, to_natural(number)),
-        _ => enter(bench, pages, current, M::Reading::from_entry(said)),
+    // Carries out what an entry says.
+    fn carry_out(&mut self, said: Said) -> Result<(), Fault>
+    where
+        M::Reading: Booked,
+        ensures { Stepped M.Method.meaning M.Method.stands (carried (M.Method.meaning self.old.bench.now.method) M.Reading.Booked.booked self.old.bench.now.n (length self.old.pages.now) self.old.current said) self.old self.new result }
+    {
+        match said {
+            Said::Drum(number) => self.call_drum(to_natural(number)),
+            _ => self.enter(M::Reading::from_entry(said)),
+        }
     }
 }
 
@@ -76,12 +72,13 @@ where
     M::Reading: Booked,
     ensures { Coursed (M.Method.meaning bench.now.method) M.Method.stands bench.now.n (course_of (M.Method.meaning bench.now.method) M.Reading.Booked.booked bench.now.n (length pages.old) (progress reader.entry) 0) pages.old pages.new result }
 {
-    let mut current = 0u32;
+    let mut inspection = Inspection {
+        bench,
+        pages,
+        current: 0,
+    };
     while let Some(entry) = reader.read()? {
-        current = within(
-            carry_entry(bench, pages, current, entry.said()),
-            entry.part().place,
-        )?;
+        within(inspection.carry_out(entry.said()), entry.part().place)?;
     }
     Ok(())
 }

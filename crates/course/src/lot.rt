@@ -63,22 +63,6 @@ where
     }
 }
 
-// Sets a bench up for a method, carries out what follows the plan, and judges the lot.
-fn judge_under<M: Method + Copy>(
-    method: M,
-    n: i32,
-    pages: &mut [Page<M::Numbers>],
-    reader: Reader<'_>,
-) -> Result<Verdict, Fault>
-where
-    M::Reading: Booked,
-    ensures told { result ≡ lot_under (M.Method.meaning method) M.Reading.Booked.booked (length pages.old) n (progress reader.entry) }
-    ensures pages { LeftUnder (M.Method.meaning method) M.Reading.Booked.booked M.Method.stands n (progress reader.entry) pages.old pages.new }
-{
-    let bench = set_up(method, n, pages)?;
-    finish(bench, pages, reader)
-}
-
 // The lot of a sheet whose reader stands behind the plan, judged by the method that was made for the plan.
 pub fn judge_lot<M: Method + Copy>(
     method: Result<M, Fault>,
@@ -91,6 +75,6 @@ where
     ensures told { result ≡ lot_of (given M.Method.meaning method) M.Reading.Booked.booked (length pages.old) n (progress reader.entry) }
     ensures pages { LeftOf (given M.Method.meaning method) M.Reading.Booked.booked M.Method.stands n (progress reader.entry) pages.old pages.new }
 {
-    let method = within(method, 1)?;
-    judge_under(method, n, pages, reader)
+    let bench = set_up(within(method, 1)?, n, pages)?;
+    finish(bench, pages, reader)
 }
