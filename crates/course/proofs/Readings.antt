@@ -1,7 +1,7 @@
 -- The readings of a sheet that is carried out are those that stand.
 use Rattle.std.proofs.Common.{◌≡◌, ℕ, zero, suc, ◌+◌, Bool, true, false, cond, ◌||◌, eqb, ltb, List, [], ◌∷◌, ◌++◌, length, Some, None, Ok, Err, Option, Result, sym, refl, ap, ◌∙◌, subst, ⊎_elim, arith}
 use Rattle.std.proofs.lemmas.List.{append_assoc}
-use Rattle.std.proofs.lemmas.List.Sorted.{IsPermutation-cons, IsPermutation-refl, IsPermutation-swap, IsPermutation-sym, IsPermutation-trans}
+use Rattle.std.proofs.lemmas.List.Sorted.{IsPermutation-append_comm, IsPermutation-append_left, IsPermutation-append_right, IsPermutation-middle, IsPermutation-refl, IsPermutation-sym, IsPermutation-trans}
 use Rattle.std.proofs.lemmas.Bool.{both_ways, cases_Bool, cond-false, cond-true}
 use Rattle.std.specs.List.Sorted.{IsPermutation}
 use Rattle.fault.proofs.Passed.{located_ok, then_ok}
@@ -22,36 +22,22 @@ use Rattle.course.specs.Course.{Course, booking, carried, course_from, natural, 
 use Rattle.course.specs.Booked.{booked_by, readings_in, some_of}
 
 module _ {R : Type 0} where
-  -- an element within a list comes to the front
-  to_front : (a b : List R) (r : R) → IsPermutation (a ++ r ∷ b) (r ∷ (a ++ b))
-  to_front [] b r = IsPermutation-refl (r ∷ b)
-  to_front (y ∷ a) b r =
-      IsPermutation-trans (y ∷ (a ++ r ∷ b)) (y ∷ r ∷ (a ++ b)) (r ∷ y ∷ (a ++ b)) (IsPermutation-cons y (a ++ r ∷ b) (r ∷ (a ++ b)) (to_front a b r))
-      (IsPermutation-swap (y ∷ r ∷ (a ++ b)) (r ∷ y ∷ (a ++ b)) 0 1 (omega arith) (omega arith) refl)
-
-  behind : (a b c : List R) → IsPermutation b c → IsPermutation (a ++ b) (a ++ c)
-  behind [] b c s = s
-  behind (y ∷ a) b c s = IsPermutation-cons y (a ++ b) (a ++ c) (behind a b c s)
-
   -- two parts in front of a list change places
   change : (a b c : List R) → IsPermutation ((a ++ b) ++ c) (b ++ (a ++ c))
-  change [] b c = IsPermutation-refl (b ++ c)
-  change (r ∷ a) b c =
-      IsPermutation-trans (r ∷ ((a ++ b) ++ c)) (r ∷ (b ++ (a ++ c))) (b ++ r ∷ (a ++ c)) (IsPermutation-cons r ((a ++ b) ++ c) (b ++ (a ++ c)) (change a b c))
-      (IsPermutation-sym (b ++ r ∷ (a ++ c)) (r ∷ (b ++ (a ++ c))) (to_front b (a ++ c) r))
+  change a b c = subst (λ t. IsPermutation ((a ++ b) ++ c) t) (append_assoc b a c) (IsPermutation-append_left c (a ++ b) (b ++ a) (IsPermutation-append_comm a b))
 
   -- one reading more stands where one was added
   one_more : (x : ℕ) (r : R) (ls : List (Line R)) → is_open x ls ≡ true → IsPermutation (r ∷ standing ls) (standing (add x (r ∷ []) ls))
   one_more x r [] h = absurd (both_ways false refl h)
   one_more x r (l ∷ ls) h =
       let all = r ∷ (l.readings ++ standing ls) in
-      let front : IsPermutation all (l.readings ++ r ∷ standing ls) = IsPermutation-sym (l.readings ++ r ∷ standing ls) all (to_front l.readings (standing ls) r) in
+      let front : IsPermutation all (l.readings ++ r ∷ standing ls) = IsPermutation-sym (l.readings ++ r ∷ standing ls) all (IsPermutation-middle l.readings r (standing ls)) in
       ⊎_elim
       (λ e. subst (λ t. IsPermutation all (standing t)) (sym (cond-true (eqb l.name x) (line l.name (l.readings ++ r ∷ []) ∷ ls) (l ∷ add x (r ∷ []) ls) e))
       (subst (λ t. IsPermutation all t) (sym (append_assoc l.readings (r ∷ []) (standing ls))) front))
       (λ e. subst (λ t. IsPermutation all (standing t)) (sym (cond-false (eqb l.name x) (line l.name (l.readings ++ r ∷ []) ∷ ls) (l ∷ add x (r ∷ []) ls) e))
       (IsPermutation-trans all (l.readings ++ r ∷ standing ls) (l.readings ++ standing (add x (r ∷ []) ls)) front
-      (behind l.readings (r ∷ standing ls) (standing (add x (r ∷ []) ls)) (one_more x r ls (ap (λ t. t || is_open x ls) (sym e) ∙ h)))))
+      (IsPermutation-append_right l.readings (r ∷ standing ls) (standing (add x (r ∷ []) ls)) (one_more x r ls (ap (λ t. t || is_open x ls) (sym e) ∙ h)))))
       (cases_Bool (eqb l.name x))
 
 abbrev Lines : Type 0 → Type 0
@@ -107,7 +93,7 @@ unfolding items_from
 made_more f s j i t u x ls js ks h d m =
     let rs = readings_in f (says m.xs) in
     let o = booked_by f x.says in
-    let moved = IsPermutation-trans ((o ++ rs) ++ standing ls) (rs ++ (o ++ standing ls)) (rs ++ standing js) (change o rs (standing ls)) (behind rs (o ++ standing ls) (standing js) d) in
+    let moved = IsPermutation-trans ((o ++ rs) ++ standing ls) (rs ++ (o ++ standing ls)) (rs ++ standing js) (change o rs (standing ls)) (IsPermutation-append_right rs (o ++ standing ls) (standing js) d) in
     record {
       xs = x ∷ m.xs;
       read = rw (h, m.read);
