@@ -25,7 +25,8 @@ use Rattle.sheet.specs.Table.{table_of}
 use Rattle.sheet.specs.declared.order.Stage.{Stage}
 use Rattle.sheet.specs.declared.order.Stage.TheVariants.{BeforePlan}
 use Rattle.carry.specs.Booking.{Books, carried_out}
-use Rattle.carry.specs.Carrying.{Came, Lot, blank, books_from, books_of, closed, first_of, lot_under, other, outcome_of, plan_in, plan_of, planned_number, under_plan}
+use Rattle.sheet.specs.First.{first_of, plan_in, plan_of}
+use Rattle.carry.specs.Carrying.{Came, Lot, blank, books_from, books_of, closed, lot_under, other, outcome_of, planned_number, under_plan}
 use Rattle.carry.specs.Carrying.Came.{judged_lot, not_yet}
 use Rattle.carry.specs.Judged.{JudgedBySheet, Right, readings}
 use Rattle.carry.proofs.Bookings.{drum_kept, entered_ok}
@@ -35,15 +36,15 @@ abbrev of : Said → List ℤ
 of x = readings (x ∷ [])
 
 booked : (n : ℕ) (x : Said) (b c : Books) → carried_out n x b ≡ Ok c → (c.total ≡ together b.total (summed (of x))) × AllByRecursion (λ r. reading r ≡ true) (of x) × (b.total.n ≤ n → c.total.n ≤ n)
-booked n (Planned p) b c h = let z : ◌≡◌ {A = ℕ} 0 1 = cc in absurd (omega arith)
+booked n (Planned p) b c h = absurd (cc)
 booked n (Drummed a) b c h =
     let d = drum_kept a b c h in
-    (d.0 ∙ sym (comm b.total none ∙ neutral b.total), tt, λ l. omega (arith, ap (λ (x : Sums). x.n) d.0))
+    (d ∙ sym (comm b.total none ∙ neutral b.total), tt, λ l. omega (arith, ap (λ (x : Sums). x.n) d))
 booked n (Reading r) b c h =
     let d = entered_ok n r b c h in
     (d.2, (d.0, tt), λ l. omega (arith, ap (λ (x : Sums). x.n) d.2, d.1))
-booked n (Pair u v) b c h = let z : ◌≡◌ {A = ℕ} 0 1 = cc in absurd (omega arith)
-booked n (Mark u) b c h = let z : ◌≡◌ {A = ℕ} 0 1 = cc in absurd (omega arith)
+booked n (Pair u v) b c h = absurd (cc)
+booked n (Mark u) b c h = absurd (cc)
 
 readings_cons : (x : Said) (xs : List Said) → readings (x ∷ xs) ≡ of x ++ readings xs
 readings_cons (Planned p) xs = refl
@@ -89,7 +90,7 @@ made n s (suc j) i t b e h =
 
 -- a lot that was closed
 closing : (a : Bool) (f : Fault) (r t : Lot) → cond a (Err f) (Ok r) ≡ Ok t → (a ≡ false) × (t ≡ r)
-closing true f r t h = let z : ◌≡◌ {A = ℕ} 0 1 = cc in absurd (omega arith)
+closing true f r t h = absurd (cc)
 closing false f r t h = (refl, cc)
 
 number_is : (n : ℤ) (j : ℕ) → planned_number n ≡ Ok j → n ≡ pos j
@@ -97,16 +98,16 @@ number_is (pos m) j h = ap pos (inner (planned (pos m)) (leb 2 m && leb m 50) m 
   where
     inner : (a b : Bool) (m j : ℕ) → cond a (cond b (Ok m) (Err (PlannedNumber 0))) (Err (PlannedNumber 0)) ≡ Ok j → m ≡ j
     inner true true m j h = cc
-    inner true false m j h = let z : ◌≡◌ {A = ℕ} 0 1 = cc in absurd (omega arith)
-    inner false b m j h = let z : ◌≡◌ {A = ℕ} 0 1 = cc in absurd (omega arith)
-number_is (negsuc m) j h = let z : ◌≡◌ {A = ℕ} 0 1 = cc in absurd (omega arith)
+    inner true false m j h = absurd (cc)
+    inner false b m j h = absurd (cc)
+number_is (negsuc m) j h = absurd (cc)
 
 constants_ok : (l k : ℤ) (p : ℤ × ℤ) → newly l k ≡ Ok p → constants l k ≡ true
 constants_ok l k p h = test (constants l k) p h
   where
     test : (b : Bool) (p : ℤ × ℤ) → ◌≡◌ {A = Result (ℤ × ℤ) Fault} (cond b (Ok (l, k)) (Err (PlanConstant 0))) (Ok p) → b ≡ true
     test true p h = refl
-    test false p h = let z : ◌≡◌ {A = ℕ} 0 1 = cc in absurd (omega arith)
+    test false p h = absurd (cc)
 
 -- only a plan of unknown deviation gives a judged lot
 not_other : (s : List ℕ) (p : Plan) (t : Lot) → other s p ≡ Ok (judged_lot t) → ⊥
@@ -131,16 +132,16 @@ judged_plan s (Paired n) q t h = absurd (not_other s (Paired n) t h)
 
 plan_said : (x : Said) (p : Plan) → plan_in x ≡ Ok p → x ≡ Planned p
 plan_said (Planned q) p h = cc
-plan_said (Drummed a) p h = let z : ◌≡◌ {A = ℕ} 0 1 = cc in absurd (omega arith)
-plan_said (Reading a) p h = let z : ◌≡◌ {A = ℕ} 0 1 = cc in absurd (omega arith)
-plan_said (Pair a b) p h = let z : ◌≡◌ {A = ℕ} 0 1 = cc in absurd (omega arith)
-plan_said (Mark b) p h = let z : ◌≡◌ {A = ℕ} 0 1 = cc in absurd (omega arith)
+plan_said (Drummed a) p h = absurd (cc)
+plan_said (Reading a) p h = absurd (cc)
+plan_said (Pair a b) p h = absurd (cc)
+plan_said (Mark b) p h = absurd (cc)
 
 -- the first entry, where it is a plan
 first_step : (b : Bool) (r : Result (Item × Stage) Fault) (q : Progress) (p : Plan) → plan_of (cond b (moved q r) (Ok None, q)).0 ≡ Ok p → (b ≡ true) × (x : Item) × (u : Stage) × (r ≡ Ok (x, u)) × (x.says ≡ Planned p) × ((cond b (moved q r) (Ok None, q)).1 ≡ record { sheet = q.sheet; count = q.count; next = q.next + 1; stage = u })
 first_step true (Ok y) q p h = (refl, y.0, y.1, refl, plan_said y.0.says p h, refl)
-first_step true (Err f) q p h = let z : ◌≡◌ {A = ℕ} 0 1 = cc in absurd (omega arith)
-first_step false r q p h = let z : ◌≡◌ {A = ℕ} 0 1 = cc in absurd (omega arith)
+first_step true (Err f) q p h = absurd (cc)
+first_step false r q p h = absurd (cc)
 
 -- what a judged lot tells of its plan and its books
 record Closed (n l k : ℤ) (q : Progress) (t : Lot) : Type 0 where

@@ -1,17 +1,16 @@
 -- What a sheet that is carried out comes to.
-use Rattle.std.specs.Prelude.{◌≡◌, ℕ, zero, suc, ◌+◌, ◌-◌, cond, ◌&&◌, List, [], ℤ, Some, None, Ok, Err, vec_items, Option, Result, nat_le, nat_lt, unsigned_abs}
+use Rattle.std.specs.Prelude.{◌≡◌, ℕ, zero, suc, ◌+◌, ◌-◌, cond, ◌&&◌, List, [], ℤ, Ok, Err, vec_items, Result, nat_le, nat_lt, unsigned_abs}
 use Rattle.fault.specs.Located.{located, then}
 use Rattle.fault.specs.declared.Fault.{Fault}
-use Rattle.fault.specs.declared.Fault.TheVariants.{EntryOrder, PlannedNumber, ReadingsMissing}
+use Rattle.fault.specs.declared.Fault.TheVariants.{PlannedNumber, ReadingsMissing}
 use Rattle.method.specs.Plans.{planned}
 use Rattle.method.specs.declared.verdict.Verdict.{Verdict}
 use Rattle.variables.specs.Sums.{none}
 use Rattle.variables.specs.Unknown.{judged, newly}
 use Rattle.entry.specs.declared.kinds.Plan.{Plan}
 use Rattle.entry.specs.declared.kinds.Plan.TheVariants.{Known, Unknown, Window, Marks, Gauged, Mean, Paired}
-use Rattle.entry.specs.declared.kinds.Said.{Said}
-use Rattle.entry.specs.declared.kinds.Said.TheVariants.{Planned, Drum as Drummed, Reading, Pair, Mark}
-use Rattle.sheet.specs.Reading.{Item, Progress, advanced, opened, step_at}
+use Rattle.sheet.specs.First.{first_of}
+use Rattle.sheet.specs.Reading.{Progress, opened, step_at}
 use Rattle.sheet.specs.Sheets.{sheet_of}
 use Rattle.sheet.specs.declared.order.Stage.{Stage}
 use Rattle.carry.specs.Booking.{Books, carried_out, view}
@@ -55,6 +54,11 @@ planned_number n = cond (planned n) (cond (nat_le 2 (unsigned_abs n) && nat_le (
 abbrev pub blank : Books
 blank = record { drums = []; current = 0; total = none }
 
+-- books that are begun for a planned number, or refused
+abbrev pub Begun : Result Booked Fault → Result ℕ Fault → Type 0
+Begun (Ok b) x = (x ≡ Ok b.n) × (view b ≡ blank)
+Begun (Err f) x = x ≡ Err f
+
 -- the books behind the j entries from i on, each read and then carried out, up to the first that is refused
 unfoldable pub books_from : ℕ → List ℕ → ℕ → ℕ → Stage → Books → Result Books Fault
 books_from n s zero i t b = Ok b
@@ -64,9 +68,10 @@ books_from n s (suc j) i t b = then (λ p. then (λ c. books_from n s j (i + 1) 
 abbrev pub books_of : ℕ → Progress → Books → Result Books Fault
 books_of n q b = books_from n q.sheet (q.count - q.next) q.next q.stage b
 
-abbrev pub viewed : Result Booked Fault → Result Books Fault
-viewed (Ok b) = Ok (view b)
-viewed (Err f) = Err f
+-- the books that a call which answered r left
+abbrev pub viewed : Result (Unit {0}) Fault → Booked → Result Books Fault
+viewed (Ok u) b = Ok (view b)
+viewed (Err f) b = Err f
 
 -- the lot is judged when the planned number of readings stands
 abbrev pub closed : ℕ → ℤ → ℤ → Books → Result Lot Fault
@@ -89,28 +94,6 @@ under_plan s (Marks n a) q = other s (Marks n a)
 under_plan s (Gauged n l h a) q = other s (Gauged n l h a)
 under_plan s (Mean n c) q = other s (Mean n c)
 under_plan s (Paired n) q = other s (Paired n)
-
--- the plan that an entry is
-abbrev pub plan_in : Said → Result Plan Fault
-plan_in (Planned p) = Ok p
-plan_in (Drummed a) = Err (EntryOrder 1)
-plan_in (Reading a) = Err (EntryOrder 1)
-plan_in (Pair a b) = Err (EntryOrder 1)
-plan_in (Mark b) = Err (EntryOrder 1)
-
-abbrev pub plan_of : Result (Option Item) Fault → Result Plan Fault
-plan_of (Ok None) = Err (EntryOrder 1)
-plan_of (Ok (Some x)) = plan_in x.says
-plan_of (Err f) = Err f
-
--- the plan that a sheet begins with, and the reader behind it
-abbrev pub first_of : Progress → Result (Plan × Progress) Fault
-first_of q = then (λ p. Ok (p, (advanced q).1)) (plan_of (advanced q).0)
-
--- a call that answered r and left a reader at q found what x says
-abbrev pub Began : Result Plan Fault → Progress → Result (Plan × Progress) Fault → Type 0
-Began (Ok p) q x = x ≡ Ok (p, q)
-Began (Err f) q x = x ≡ Err f
 
 -- what a sheet comes to, or why it is refused
 abbrev pub outcome_of : List ℕ → Result Came Fault

@@ -1,105 +1,133 @@
 // What the entries of a sheet have booked so far.
-ghost use Rattle.std.specs.Prelude.{◌≡◌, ◌<◌, ◌≤◌, length};
-ghost use Rattle.carry.specs.Booking.{Counted, Done, carried_out, counted, drum_called, entered, place_of, view};
+ghost use Rattle.std.specs.Prelude.{◌≡◌, ◌≤◌, ◌==◌, position};
+ghost use Rattle.carry.specs.declared.report.Drum.{Drum};
+ghost use Rattle.carry.specs.Drums.{Counted, name_of};
 
-use crate::report::Drum;
+use crate::report::{Drum, Report};
 use entry::Said;
 use fault::Fault;
+use method::Method;
+use std::alloc::Global;
 use variables::reading::is_reading;
 use variables::tally::Tally;
+use variables::unknown::Unknown;
 
-const LOWEST_NAME: i32 = 1;
+const LOWEST_NAME: u32 = 1;
 
-const HIGHEST_NAME: i32 = 255;
+const HIGHEST_NAME: u32 = 255;
 
 const MOST_DRUMS: usize = 64;
 
-// The drums in the order of first naming, the one that was named last, and the tally of all readings.
+// The planned number, the drums in the order of first naming, the one that was named last, and the tally of all readings.
 #[derive(Drop)]
-pub struct Booked {
-    pub drums: Vec<Drum>,
-    pub current: usize,
-    pub tally: Tally,
+pub(crate) struct Booked {
+    n: u32,
+    drums: Vec<Drum>,
+    current: usize,
+    tally: Tally,
+    ghost few: { n ≤ 50 },
+    ghost counts: { Counted tally.sums.n drums.items },
 }
 
-// Where a name stands among drums, or their number.
-fn place_of(drums: &[Drum], name: u32) -> usize
-    ensures { result ≡ place_of name drums.now }
+// A number of a sheet as a drum's name.
+fn name_of(number: i32) -> Result<u32, Fault>
+    ensures { result ≡ name_of number }
 {
-    for (i, drum) in drums.iter().enumerate() {
-        if drum.name == name {
-            return i;
-        }
+    match u32::try_from(number) {
+        Ok(name) if (LOWEST_NAME..=HIGHEST_NAME).contains(&name) => Ok(name),
+        _ => Err(Fault::NameRange(0)),
     }
-    drums.len()
 }
 
-// One reading more on the drum at a place.
-fn count_one(drums: &mut Vec<Drum>, i: usize)
-    requires { Counted 50 drums.old.items }
-    ensures { drums.new.items ≡ counted i drums.old.items }
+// Where the drum of a name stands among drums.
+fn place_of(drums: &[Drum], name: u32) -> Option<usize>
+    ensures { result ≡ position (λ (d : Drum). d.name == name) drums.now }
 {
-    if i < drums.len() {
-        let drum = drums[i];
-        drums[i] = Drum {
-            name: drum.name,
-            count: drum.count + 1,
-        };
-    }
+    drums.iter().position(|drum| drum.name == name)
 }
 
 impl Booked {
-    // Names the drum for what follows, and opens it where it is not open.
-    fn call_drum(&mut self, name: i32) -> Result<(), Fault>
-        ensures { Done (view self.old) result (view self.new) (drum_called name (view self.old)) }
+    ghost use Rattle.carry.specs.Booking.{Done, carried_out, drum_called, entered, view};
+    ghost use Rattle.carry.specs.Carrying.{Begun, closed, planned_number, reported};
+
+    // Nothing booked yet, for a planned number that the method allows.
+    pub(crate) fn for_plan(heap: Global, method: &Unknown, n: i32) -> Result<Booked, Fault>
+        ensures { Begun result (planned_number n) }
     {
-        if name < LOWEST_NAME || name > HIGHEST_NAME {
-            return Err(Fault::NameRange(0));
+        match u32::try_from(n) {
+            Ok(n) if method.allows(n) => Ok(Booked {
+                n,
+                drums: Vec::new(heap),
+                current: 0,
+                tally: Tally::blank(),
+            }),
+            _ => Err(Fault::PlannedNumber(0)),
         }
-        let name = name as u32;
+    }
+
+    // Names the drum for what follows, and opens it where it is not open.
+    fn call_drum(&mut self, number: i32) -> Result<(), Fault>
+        ensures { Done self.old result self.new (drum_called number (view self.old)) }
+    {
+        let name = name_of(number)?;
         let open = self.drums.len();
-        let place = place_of(&self.drums, name);
-        if place < open {
+        if let Some(place) = place_of(&self.drums, name) {
             self.current = place;
             return Ok(());
         }
         if open >= MOST_DRUMS {
             return Err(Fault::RowFull(0));
         }
-        if self.drums.push(Drum { name, count: 0 }).is_err() {
-            return Err(Fault::NoMemory);
-        }
+        self.drums.push(Drum { name, count: 0 })?;
         self.current = open;
         Ok(())
     }
 
-    // Enters a reading on the drum named last, while fewer than n stand.
-    fn enter(&mut self, n: u32, reading: i32) -> Result<(), Fault>
-        requires counts { Counted self.old.tally.sums.n self.old.drums.items }
-        requires few { n ≤ 50 }
-        ensures { Done (view self.old) result (view self.new) (entered n reading (view self.old)) }
+    // Enters a reading on the drum named last, while fewer than planned stand.
+    fn enter(&mut self, reading: i32) -> Result<(), Fault>
+        ensures { Done self.old result self.new (entered self.old.n reading (view self.old)) }
     {
         if !is_reading(reading) {
             return Err(Fault::ReadingNotTaken(0));
         }
-        if self.tally.sums().n >= n {
+        if self.tally.sums().n >= self.n {
             return Err(Fault::PlanFull(0));
         }
         self.tally = self.tally.enter(reading)?;
-        count_one(&mut self.drums, self.current);
+        if let Some(drum) = self.drums.get_mut(self.current) {
+            drum.count += 1;
+        }
         Ok(())
     }
 
     // Carries out what an entry behind the plan says.
-    pub(crate) fn carry_out(&mut self, n: u32, said: Said) -> Result<(), Fault>
-        requires counts { Counted self.old.tally.sums.n self.old.drums.items }
-        requires few { n ≤ 50 }
-        ensures { Done (view self.old) result (view self.new) (carried_out n said (view self.old)) }
+    pub(crate) fn carry_out(&mut self, said: Said) -> Result<(), Fault>
+        ensures { Done self.old result self.new (carried_out self.old.n said (view self.old)) }
     {
         match said {
             Said::Drum(name) => self.call_drum(name),
-            Said::Reading(reading) => self.enter(n, reading),
+            Said::Reading(reading) => self.enter(reading),
             _ => Err(Fault::EntryOrder(0)),
         }
+    }
+
+    // Judges the lot, where the planned number of readings stands.
+    pub(crate) fn close(self, method: Unknown) -> Result<Report, Fault>
+        ensures { reported result ≡ closed self.n method.limit method.k (view self) }
+    {
+        let Booked {
+            n,
+            drums,
+            current: _,
+            tally,
+        } = self;
+        if tally.sums().n < n {
+            return Err(Fault::ReadingsMissing);
+        }
+        Ok(Report {
+            n,
+            drums,
+            verdict: method.judge(tally),
+        })
     }
 }

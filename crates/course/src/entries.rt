@@ -31,14 +31,14 @@ impl<'a, 'b, M: Method> Inspection<'a, 'b, M> {
     fn call_drum(&mut self, name: u32) -> Result<(), Fault>
         ensures { Stepped M.Method.meaning M.Method.stands (drum (length self.old.pages.now) name) self.old self.new result }
     {
-        if let Err(fault) = self.bench.open(self.pages, name) {
-            match fault {
-                Fault::NameOpen(_) => {}
-                _ => return Err(fault),
-            }
-        }
         self.current = name;
-        Ok(())
+        match self.bench.open(self.pages, name) {
+            Ok(()) => Ok(()),
+            Err(fault) => match fault {
+                Fault::NameOpen(_) => Ok(()),
+                _ => Err(fault),
+            },
+        }
     }
 
     // Enters what an entry books on the page named last; an entry that books nothing has no place here.

@@ -2,9 +2,6 @@
 #![tactic(auto)]
 
 use carry::{Outcome, Report, carry};
-use entry::Plan;
-use fault::Fault;
-use method::verdict::Verdict;
 use std::io;
 use std::io::Read;
 
@@ -15,25 +12,9 @@ fn print_report(rt: &HostRuntime, report: &Report) -> io::Result<()> {
     let n = report.n;
     println!(rt; "U {n}")?;
     for drum in report.drums.iter() {
-        let name = drum.name;
-        let count = drum.count;
-        println!(rt; "D {name} {count}")?;
+        println!(rt; "{drum}")?;
     }
-    match report.verdict {
-        Verdict::Accepted => println!(rt; "accepted"),
-        Verdict::NotAccepted => println!(rt; "not accepted"),
-    }
-}
-
-fn print_not_yet(rt: &HostRuntime, plan: Plan) -> io::Result<()> {
-    let letter = plan.letter() as char;
-    println!(rt; "plan {letter} is not judged yet")
-}
-
-fn print_refusal(rt: &HostRuntime, fault: Fault) -> io::Result<()> {
-    let number = fault.number();
-    let entry = fault.entry();
-    println!(rt; "refused {number} {entry}")
+    println!(rt; "{}", report.verdict)
 }
 
 fn main(rt: HostRuntime) -> io::Result<()> {
@@ -41,7 +22,7 @@ fn main(rt: HostRuntime) -> io::Result<()> {
     rt.stdin().take(MOST_READ).read_to_end(&mut sheet)?;
     match carry(rt.alloc(), &sheet) {
         Ok(Outcome::Judged(report)) => print_report(&rt, &report),
-        Ok(Outcome::NotYet(plan)) => print_not_yet(&rt, plan),
-        Err(fault) => print_refusal(&rt, fault),
+        Ok(Outcome::NotYet(plan)) => println!(rt; "plan {} is not judged yet", plan.letter() as char),
+        Err(fault) => println!(rt; "{fault}"),
     }
 }
