@@ -24,6 +24,7 @@ use Rattle.entry.specs.declared.kinds.Plan.TheVariants.{Known, Unknown, Window, 
 use Rattle.entry.specs.declared.kinds.Said.{Said}
 use Rattle.entry.specs.declared.kinds.Said.TheVariants.{Planned, Drum, Reading, Pair, Mark}
 use Rattle.sheet.proofs.Wholes.{read_alone}
+use Rattle.sheet.specs.First.{first_of, plan_in, plan_of}
 use Rattle.sheet.specs.Reading.{Item, Progress, advanced, moved, opened, step_at}
 use Rattle.sheet.specs.Rules.{Read, says}
 use Rattle.sheet.specs.Sheets.{items_from, sheet_of}
@@ -33,7 +34,7 @@ use Rattle.sheet.specs.declared.order.Stage.TheVariants.{BeforePlan}
 use Rattle.course.proofs.Samples.{behind_plan, judged_of}
 use Rattle.course.specs.Booked.{mark_in, number_in, pair_in}
 use Rattle.course.specs.Lots.{LeftOf, lot_of}
-use Rattle.acceptance.specs.Carrying.{Left, LeftBehind, LeftFrom, Rows, begun, both_sound, first_of, lot, outcome_of, plan_in, plan_of, under_plan}
+use Rattle.acceptance.specs.Carrying.{Left, LeftBehind, LeftFrom, Rows, begun, both_sound, lot, outcome_of, under_plan}
 use Rattle.acceptance.specs.Right.{JudgedBySheet, Right, RightUnder, Under}
 use Rattle.acceptance.specs.declared.judged.Judged.{Judged}
 
@@ -41,11 +42,11 @@ use Rattle.acceptance.specs.declared.judged.Judged.{Judged}
 module _ {R X : Type 0} (f : Said → Option R) (size : ℕ) (n : ℤ) (q : Progress) (m : Meaning R X) (v : Verdict) where
   in_range : (ok : Bool) → lot_of (piled ok m) f size n q ≡ Ok v → ok ≡ true
   in_range true h = refl
-  in_range false h = let z : ◌≡◌ {A = ℕ} 0 1 = cc in absurd (omega arith)
+  in_range false h = absurd (cc)
 
 made : {R X : Type 0} (ok : Bool) (m : Meaning R X) → ok ≡ true → piled ok m ≡ Ok m
 made true m e = refl
-made false m e = let z : ◌≡◌ {A = ℕ} 0 1 = cc in absurd (omega arith)
+made false m e = absurd (cc)
 
 -- the entries behind the plan of a sheet, and what the verdict tells of them
 record Told {R X : Type 0} (s : List ℕ) (j : ℕ) (u : Stage) (ok : Bool) (m : Meaning R X) (st : X → Bool) (f : Said → Option R) (n : ℤ) (qs : List (Page X)) (v : Verdict) (Meets : List R → Type 0) : Type 0 where
@@ -90,16 +91,16 @@ behind s j u (Paired n) d e v h left =
 
 plan_said : (x : Said) (p : Plan) → plan_in x ≡ Ok p → x ≡ Planned p
 plan_said (Planned q) p h = cc
-plan_said (Drum a) p h = let z : ◌≡◌ {A = ℕ} 0 1 = cc in absurd (omega arith)
-plan_said (Reading a) p h = let z : ◌≡◌ {A = ℕ} 0 1 = cc in absurd (omega arith)
-plan_said (Pair a b) p h = let z : ◌≡◌ {A = ℕ} 0 1 = cc in absurd (omega arith)
-plan_said (Mark b) p h = let z : ◌≡◌ {A = ℕ} 0 1 = cc in absurd (omega arith)
+plan_said (Drum a) p h = absurd (cc)
+plan_said (Reading a) p h = absurd (cc)
+plan_said (Pair a b) p h = absurd (cc)
+plan_said (Mark b) p h = absurd (cc)
 
 -- the first entry, where it is a plan
 first_step : (b : Bool) (r : Result (Item × Stage) Fault) (q : Progress) (p : Plan) → plan_of (cond b (moved q r) (Ok None, q)).0 ≡ Ok p → (b ≡ true) × (x : Item) × (u : Stage) × (r ≡ Ok (x, u)) × (x.says ≡ Planned p) × ((cond b (moved q r) (Ok None, q)).1 ≡ record { sheet = q.sheet; count = q.count; next = q.next + 1; stage = u })
 first_step true (Ok y) q p h = (refl, y.0, y.1, refl, plan_said y.0.says p h, refl)
-first_step true (Err f) q p h = let z : ◌≡◌ {A = ℕ} 0 1 = cc in absurd (omega arith)
-first_step false r q p h = let z : ◌≡◌ {A = ℕ} 0 1 = cc in absurd (omega arith)
+first_step true (Err f) q p h = absurd (cc)
+first_step false r q p h = absurd (cc)
 
 first_and_rest : (s : List ℕ) (j : ℕ) (x : Item) (u : Stage) (xs : List Item) → step_at s 0 BeforePlan ≡ Ok (x, u) → items_from s j 1 u ≡ Ok xs → items_from s (suc j) 0 BeforePlan ≡ Ok (x ∷ xs)
 unfolding items_from

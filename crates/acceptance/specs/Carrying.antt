@@ -1,8 +1,7 @@
 -- What a sheet that is carried out on rows of pages comes to.
-use Rattle.std.specs.Prelude.{◌≡◌, ℕ, Bool, ◌&&◌, List, length, Some, None, Ok, Err, Option, Result}
+use Rattle.std.specs.Prelude.{◌≡◌, ℕ, Bool, ◌&&◌, List, length, Ok, Err, Result}
 use Rattle.fault.specs.Located.{then}
 use Rattle.fault.specs.declared.Fault.{Fault}
-use Rattle.fault.specs.declared.Fault.TheVariants.{EntryOrder}
 use Rattle.method.specs.declared.verdict.Verdict.{Verdict}
 use Rattle.variables.specs.Sums.{sound}
 use Rattle.variables.specs.declared.sums.Sums.{Sums}
@@ -12,9 +11,8 @@ use Rattle.plans.specs.Piles.{gauged_pile, known_pile, marks_pile, mean_pile, pa
 use Rattle.rows.specs.declared.page.Page.{Page}
 use Rattle.entry.specs.declared.kinds.Plan.{Plan}
 use Rattle.entry.specs.declared.kinds.Plan.TheVariants.{Known, Unknown, Window, Marks, Gauged, Mean, Paired}
-use Rattle.entry.specs.declared.kinds.Said.{Said}
-use Rattle.entry.specs.declared.kinds.Said.TheVariants.{Planned, Drum, Reading, Pair, Mark}
-use Rattle.sheet.specs.Reading.{Item, Progress, advanced, opened}
+use Rattle.sheet.specs.First.{first_of}
+use Rattle.sheet.specs.Reading.{Progress, opened}
 use Rattle.course.specs.Booked.{mark_in, number_in, pair_in}
 use Rattle.course.specs.Lots.{LeftOf, lot_of}
 use Rattle.acceptance.specs.declared.judged.Judged.{Judged}
@@ -41,28 +39,6 @@ under_plan d (Marks n a) q = lot_of (marks_pile a) mark_in (length d.counts) n q
 under_plan d (Gauged n l h a) q = lot_of (gauged_pile l h a) number_in (length d.counts) n q
 under_plan d (Mean n c) q = lot_of (mean_pile n c) number_in (length d.singles) n q
 under_plan d (Paired n) q = lot_of (paired_pile n) pair_in (length d.singles) n q
-
--- the plan that an entry is
-abbrev pub plan_in : Said → Result Plan Fault
-plan_in (Planned p) = Ok p
-plan_in (Drum a) = Err (EntryOrder 1)
-plan_in (Reading a) = Err (EntryOrder 1)
-plan_in (Pair a b) = Err (EntryOrder 1)
-plan_in (Mark b) = Err (EntryOrder 1)
-
-abbrev pub plan_of : Result (Option Item) Fault → Result Plan Fault
-plan_of (Ok None) = Err (EntryOrder 1)
-plan_of (Ok (Some x)) = plan_in x.says
-plan_of (Err f) = Err f
-
--- the plan that a sheet begins with, and the reader behind it
-abbrev pub first_of : Progress → Result (Plan × Progress) Fault
-first_of q = then (λ p. Ok (p, (advanced q).1)) (plan_of (advanced q).0)
-
--- a call that answered r and left a reader at q found what x says
-abbrev pub Began : Result Plan Fault → Progress → Result (Plan × Progress) Fault → Type 0
-Began (Ok p) q x = x ≡ Ok (p, q)
-Began (Err f) q x = x ≡ Err f
 
 abbrev pub begun : List ℕ → Result (Plan × Progress) Fault
 begun s = then first_of (opened s)

@@ -1,32 +1,19 @@
 // A sheet, carried out entry by entry on a row of pages.
 ghost use Rattle.std.specs.Prelude.{◌≡◌};
-ghost use Rattle.acceptance.specs.Carrying.{Began, Left, LeftBehind, first_of, outcome_of, rows, under_plan};
+ghost use Rattle.acceptance.specs.Carrying.{Left, LeftBehind, outcome_of, rows, under_plan};
 ghost use Rattle.acceptance.specs.Right.{JudgedBySheet};
 ghost use Rattle.sheet.specs.Reading.{progress};
 
 use crate::judged::Judged;
 use attributes::counts::Counts;
 use course::judge_lot;
-use entry::{Plan, Said};
+use entry::Plan;
 use fault::Fault;
 use method::verdict::Verdict;
 use plans::{gauged, known, marks, mean, paired, unknown, window};
 use rows::Page;
-use sheet::Reader;
+use sheet::{Reader, first_plan};
 use variables::sums::Sums;
-
-// The plan that a sheet begins with.
-fn first_plan(reader: &mut Reader<'_>) -> Result<Plan, Fault>
-    ensures { Began result (progress reader.new) (first_of (progress reader.old)) }
-{
-    let Some(entry) = reader.read()? else {
-        return Err(Fault::EntryOrder(1));
-    };
-    match entry.said() {
-        Said::Planned(plan) => Ok(plan),
-        _ => Err(Fault::EntryOrder(1)),
-    }
-}
 
 // The lot of a plan, judged by its method on the row of pages that has the method's numbers.
 fn judge_plan(
