@@ -16,6 +16,7 @@ use Rattle.sheet.specs.Reading.{Progress, opened}
 use Rattle.course.specs.Booked.{mark_in, number_in, pair_in}
 use Rattle.course.specs.Lots.{LeftOf, lot_of}
 use Rattle.acceptance.specs.declared.judged.Judged.{Judged}
+use Rattle.acceptance.specs.declared.lent.Rows.{Rows as Lent}
 
 -- the three rows of pages: with the numbers of one tally of readings, of two, and of a tally of marks
 pub record Rows : Type 0 where
@@ -25,6 +26,16 @@ pub record Rows : Type 0 where
 
 abbrev pub rows : List (Page Sums) → List (Page (Sums × Sums)) → List (Page Counts) → Rows
 rows a b c = record { singles = a; doubles = b; counts = c }
+
+-- what lent rows show
+abbrev pub lent : Lent → Rows
+lent r = rows r.singles.now r.doubles.now r.counts.now
+
+-- the lent rows e are those that d are, each as long as it was
+abbrev pub SameRows : Lent → Lent → Type 0
+SameRows d e =
+    (e.singles.ghost_name ≡ d.singles.ghost_name) × (e.doubles.ghost_name ≡ d.doubles.ghost_name) × (e.counts.ghost_name ≡ d.counts.ghost_name)
+    × (length e.singles.now ≡ length d.singles.now) × (length e.doubles.now ≡ length d.doubles.now) × (length e.counts.now ≡ length d.counts.now)
 
 -- some two tallies give the numbers of a page under two limits
 abbrev pub both_sound : Sums × Sums → Bool

@@ -3,6 +3,7 @@
 
 mod carrying;
 mod judged;
+mod lent;
 
-pub use carrying::carry;
 pub use judged::Judged;
+pub use lent::Rows;
