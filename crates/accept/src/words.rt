@@ -1,7 +1,22 @@
 // What was wrong and what was expected, for the person at the bench.
 use fault::Fault;
+use std::fmt;
 
-pub fn expectation(fault: Fault) -> &'static str {
+// The sentence for a refusal.
+#[derive(Clone, Copy)]
+pub struct Sentence(pub Fault);
+
+impl fmt::Display for Sentence {
+    fn fmt<W: fmt::Write>(&self, f: &mut fmt::Formatter<W>) -> fmt::Result {
+        let words = expectation(self.0);
+        match self.0.entry() {
+            0 => write!(f, "The sheet is refused: {words}."),
+            entry => write!(f, "Entry {entry} is refused: {words}."),
+        }
+    }
+}
+
+fn expectation(fault: Fault) -> &'static str {
     match fault {
         Fault::SheetSize => {
             "its size is wrong; 2 to 65535 bytes were expected, with at least one entry and a table that fits"

@@ -1,4 +1,4 @@
-// A sheet, carried out entry by entry on a row of pages.
+// A sheet, carried out entry by entry on lent rows of pages.
 ghost use Rattle.std.specs.Prelude.{◌≡◌};
 ghost use Rattle.acceptance.specs.Carrying.{Left, LeftBehind, SameRows, lent, outcome_of, under_plan};
 ghost use Rattle.acceptance.specs.Right.{JudgedBySheet};
@@ -6,14 +6,12 @@ ghost use Rattle.sheet.specs.Reading.{progress};
 
 use crate::judged::Judged;
 use crate::lent::Rows;
-use attributes::counts::Counts;
 use course::judge_lot;
 use entry::Plan;
 use fault::Fault;
 use method::verdict::Verdict;
 use plans::{gauged, known, marks, mean, paired, unknown, window};
 use sheet::{Reader, first_plan};
-use variables::sums::Sums;
 
 impl<'a, 'b, 'c> Rows<'a, 'b, 'c> {
     // The lot of a plan, judged by its method on the row of pages that has the method's numbers.
