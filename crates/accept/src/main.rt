@@ -14,6 +14,7 @@ use variables::sums::Sums;
 use words::Sentence;
 
 // One byte more than the longest sheet, so that a longer one is refused and not read without bound.
+// It stands in judge too: no library below both programs reads input.
 const MOST_READ: u64 = 65_536;
 
 // The pages of the bench.

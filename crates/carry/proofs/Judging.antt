@@ -1,5 +1,5 @@
 -- The verdict of a judged sheet is the plan's, of the sheet's readings.
-use Rattle.std.proofs.Common.{◌≡◌, ℕ, zero, suc, ◌+◌, ◌-◌, ◌<◌, ◌≤◌, Bool, true, false, cond, ◌&&◌, ltb, leb, List, [], ◌∷◌, ◌++◌, ℤ, pos, negsuc, None, Ok, Err, Result, sym, refl, ap, ◌∙◌, subst, arith}
+use Rattle.std.proofs.Common.{◌≡◌, ℕ, zero, suc, ◌+◌, ◌-◌, ◌<◌, ◌≤◌, Bool, true, false, cond, ◌&&◌, ltb, leb, List, [], ◌∷◌, ◌++◌, ℤ, pos, negsuc, None, Ok, Err, Result, sym, refl, ap, ◌∙◌, subst, ⊎_elim, arith}
 use Rattle.std.proofs.ByRecursion.{All-append}
 use Rattle.std.proofs.lemmas.Bool.{ltb-false, ltb-true}
 use Rattle.std.specs.List.{AllByRecursion}
@@ -20,7 +20,7 @@ use Rattle.entry.specs.declared.kinds.Said.TheVariants.{Planned, Drum as Drummed
 use Rattle.sheet.specs.Reading.{Item, Progress, advanced, moved, opened, step_at}
 use Rattle.sheet.proofs.Wholes.{read_alone}
 use Rattle.sheet.specs.Rules.{Read, says}
-use Rattle.sheet.specs.Sheets.{items_from, sheet_of}
+use Rattle.sheet.specs.Sheets.{Answered, items_from, sheet_of}
 use Rattle.sheet.specs.Table.{table_of}
 use Rattle.sheet.specs.declared.order.Stage.{Stage}
 use Rattle.sheet.specs.declared.order.Stage.TheVariants.{BeforePlan}
@@ -227,7 +227,10 @@ judged_right s t h =
     same p q e = cc
 
 -- what a sheet comes to tells of its readings what it should
-pub judged_by_sheet : (s : List ℕ) (r : Result Came Fault) → outcome_of s ≡ r → JudgedBySheet s r
+judged_by_sheet : (s : List ℕ) (r : Result Came Fault) → outcome_of s ≡ r → JudgedBySheet s r
 judged_by_sheet s (Ok (judged_lot t)) h = judged_right s t h
 judged_by_sheet s (Ok (not_yet p)) h = tt
 judged_by_sheet s (Err f) h = tt
+
+pub answer_judged : (s : List ℕ) (r : Result Came Fault) → Answered r (outcome_of s) → JudgedBySheet s r
+answer_judged s r a = ⊎_elim (λ e. subst (JudgedBySheet s) (sym e) tt) (λ e. judged_by_sheet s r (sym e)) a

@@ -43,8 +43,10 @@ fn leave(heap: Global, sheet: &[u8], plan: Plan) -> Result<Outcome, Fault>
     Ok(Outcome::NotYet(plan))
 }
 
-fn carry_out(heap: Global, sheet: &[u8]) -> Result<Outcome, Fault>
-    ensures { Answered (came result) (outcome_of sheet.now) }
+// Carries a sheet out and judges its lot, or says that its plan is not judged yet.
+pub fn carry(heap: Global, sheet: &[u8]) -> Result<Outcome, Fault>
+    ensures told { Answered (came result) (outcome_of sheet.now) }
+    ensures judged { JudgedBySheet sheet.now (came result) }
 {
     let mut reader = Reader::open(sheet)?;
     let plan = first_plan(&mut reader)?;
@@ -55,12 +57,4 @@ fn carry_out(heap: Global, sheet: &[u8]) -> Result<Outcome, Fault>
         }
         _ => leave(heap, sheet, plan),
     }
-}
-
-// Carries a sheet out and judges its lot, or says that its plan is not judged yet.
-pub fn carry(heap: Global, sheet: &[u8]) -> Result<Outcome, Fault>
-    ensures told { Answered (came result) (outcome_of sheet.now) }
-    ensures judged { JudgedBySheet sheet.now (came result) }
-{
-    carry_out(heap, sheet)
 }

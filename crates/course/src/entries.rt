@@ -34,6 +34,7 @@ impl<'a, 'b, M: Method> Inspection<'a, 'b, M> {
         self.current = name;
         match self.bench.open(self.pages, name) {
             Ok(()) => Ok(()),
+            // Matched in two steps: past a pattern in a pattern the proof does not know that the name was not open.
             Err(fault) => match fault {
                 Fault::NameOpen(_) => Ok(()),
                 _ => Err(fault),

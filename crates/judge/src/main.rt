@@ -6,6 +6,7 @@ use std::io;
 use std::io::Read;
 
 // One byte more than the longest sheet, so that a longer one is refused and not read without bound.
+// It stands in accept too: no library below both programs reads input.
 const MOST_READ: u64 = 65_536;
 
 fn print_report(rt: &HostRuntime, report: &Report) -> io::Result<()> {
