@@ -24,19 +24,6 @@ fn blank<N>(numbers: N) -> Page<N> {
     Page { name: 0, numbers }
 }
 
-// The planned number of readings.
-fn planned(plan: Plan) -> i32 {
-    match plan {
-        Plan::Known { n, .. }
-        | Plan::Unknown { n, .. }
-        | Plan::Window { n, .. }
-        | Plan::Marks { n, .. }
-        | Plan::Gauged { n, .. }
-        | Plan::Mean { n, .. }
-        | Plan::Paired { n } => n,
-    }
-}
-
 // The drums of a row, each with the number of readings that its page has.
 fn print_drums<N, F: Fn(&N) -> u32>(rt: &HostRuntime, pages: &[Page<N>], count: F) -> io::Result<()>
     requires { F.IsAlwaysCallable count }
@@ -72,7 +59,7 @@ fn main(rt: HostRuntime) -> io::Result<()> {
         Ok(lot) => lot,
         Err(fault) => return print_refusal(&rt, fault),
     };
-    println!(rt; "{} {}", plan.letter() as char, planned(plan))?;
+    println!(rt; "{} {}", plan.letter() as char, plan.planned())?;
     match plan {
         Plan::Window { .. } => print_drums(&rt, rows.doubles, |pair| pair.0.n)?,
         Plan::Marks { .. } | Plan::Gauged { .. } => print_drums(&rt, rows.counts, |marks| marks.n)?,

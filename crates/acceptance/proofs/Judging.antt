@@ -5,6 +5,7 @@ use Rattle.fault.proofs.Passed.{then_ok}
 use Rattle.fault.specs.Located.{then}
 use Rattle.fault.specs.declared.Fault.{Fault}
 use Rattle.method.specs.Meaning.{Meaning}
+use Rattle.method.specs.Verdicts.{Exactly}
 use Rattle.method.specs.declared.verdict.Verdict.{Verdict}
 use Rattle.variables.specs.Sums.{sound, summed}
 use Rattle.criteria.proofs.Judged.{known_tells, mean_tells, unknown_tells}

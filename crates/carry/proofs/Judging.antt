@@ -11,7 +11,7 @@ use Rattle.method.specs.Plans.{planned}
 use Rattle.variables.specs.Laws.{appended, assoc, comm, counted, neutral}
 use Rattle.variables.specs.Sums.{none, reading, summed, together}
 use Rattle.variables.proofs.Judged.{judged_tells}
-use Rattle.variables.specs.Unknown.{Tells, constants, judged, newly}
+use Rattle.criteria.specs.Unknown.{Tells, constants, judged, newly}
 use Rattle.variables.specs.declared.sums.Sums.{Sums}
 use Rattle.entry.specs.declared.kinds.Plan.{Plan}
 use Rattle.entry.specs.declared.kinds.Plan.TheVariants.{Known, Unknown, Window, Marks, Gauged, Mean, Paired}

@@ -6,8 +6,8 @@ use Rattle.fault.specs.Located.{located, then}
 use Rattle.fault.specs.declared.Fault.{Fault}
 use Rattle.fault.specs.declared.Fault.TheVariants.{PlanConstant}
 use Rattle.method.specs.Answers.{given}
-use Rattle.variables.specs.Unknown.{constants, newly}
-use Rattle.variables.specs.declared.unknown.Unknown.{Unknown}
+use Rattle.criteria.specs.Unknown.{constants, newly}
+use Rattle.criteria.specs.declared.unknown.Unknown.{Unknown}
 use Rattle.entry.specs.declared.kinds.Plan.{Plan}
 use Rattle.entry.specs.declared.kinds.Plan.TheVariants.{Unknown as UnknownPlan}
 use Rattle.sheet.specs.Reading.{Progress, opened}

@@ -6,7 +6,7 @@ use Rattle.fault.specs.declared.Fault.TheVariants.{PlannedNumber, ReadingsMissin
 use Rattle.method.specs.Plans.{planned}
 use Rattle.method.specs.declared.verdict.Verdict.{Verdict}
 use Rattle.variables.specs.Sums.{none}
-use Rattle.variables.specs.Unknown.{judged, newly}
+use Rattle.criteria.specs.Unknown.{judged, newly}
 use Rattle.entry.specs.declared.kinds.Plan.{Plan}
 use Rattle.entry.specs.declared.kinds.Plan.TheVariants.{Known, Unknown, Window, Marks, Gauged, Mean, Paired}
 use Rattle.sheet.specs.First.{first_of}

@@ -3,7 +3,7 @@ use Rattle.std.specs.Prelude.{◌≡◌, ℕ, true, List, [], ◌∷◌, length,
 use Rattle.std.specs.List.{AllByRecursion}
 use Rattle.fault.specs.declared.Fault.{Fault}
 use Rattle.variables.specs.Sums.{reading, summed}
-use Rattle.variables.specs.Unknown.{Tells, constants}
+use Rattle.criteria.specs.Unknown.{Tells, constants}
 use Rattle.entry.specs.declared.kinds.Plan.TheVariants.{Unknown}
 use Rattle.entry.specs.declared.kinds.Said.{Said}
 use Rattle.entry.specs.declared.kinds.Said.TheVariants.{Planned, Drum, Reading, Pair, Mark}

@@ -4,18 +4,20 @@ ghost use Rattle.carry.specs.declared.report.Drum.{Drum};
 ghost use Rattle.carry.specs.Drums.{Counted, name_of};
 
 use crate::report::{Drum, Report};
+use criteria::unknown::Unknown;
 use entry::Said;
 use fault::Fault;
-use method::Method;
+use inspection::criterion::Criterion;
+use inspection::tallying::Tallying;
 use std::alloc::Global;
 use variables::reading::is_reading;
 use variables::tally::Tally;
-use variables::unknown::Unknown;
 
 const LOWEST_NAME: u32 = 1;
 
 const HIGHEST_NAME: u32 = 255;
 
+// As many as a bench has pages, and as high as its names go; the drums here are on no bench.
 const MOST_DRUMS: usize = 64;
 
 // The planned number, the drums in the order of first naming, the one that was named last, and the tally of all readings.
@@ -90,7 +92,7 @@ impl Booked {
         if !is_reading(reading) {
             return Err(Fault::ReadingNotTaken(0));
         }
-        if self.tally.sums().n >= self.n {
+        if self.tally.count() >= self.n {
             return Err(Fault::PlanFull(0));
         }
         self.tally = self.tally.enter(reading)?;
@@ -121,7 +123,7 @@ impl Booked {
             current: _,
             tally,
         } = self;
-        if tally.sums().n < n {
+        if tally.count() < n {
             return Err(Fault::ReadingsMissing);
         }
         Ok(Report {

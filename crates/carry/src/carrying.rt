@@ -8,11 +8,11 @@ ghost use Rattle.sheet.specs.Sheets.{Answered};
 
 use crate::booked::Booked;
 use crate::report::{Outcome, Report};
+use criteria::unknown::Unknown;
 use entry::Plan;
 use fault::{Fault, within};
 use sheet::{Reader, entries, first_plan};
 use std::alloc::Global;
-use variables::unknown::Unknown;
 
 // Reads and carries out the entries behind the plan, one by one.
 fn book_entries(booked: &mut Booked, mut reader: Reader<'_>) -> Result<(), Fault>

@@ -53,12 +53,12 @@ impl Rows {
     }
 
     pub fn carry(&mut self, sheet: &[u8]) -> Result<Judged, Fault> {
-        acceptance::carry(
-            sheet,
-            &mut self.singles,
-            &mut self.doubles,
-            &mut self.counts,
-        )
+        acceptance::Rows {
+            singles: &mut self.singles,
+            doubles: &mut self.doubles,
+            counts: &mut self.counts,
+        }
+        .carry(sheet)
     }
 }
 
