@@ -23,7 +23,10 @@ fn main(rt: HostRuntime) -> io::Result<()> {
     rt.stdin().take(MOST_READ).read_to_end(&mut sheet)?;
     match carry(rt.alloc(), &sheet) {
         Ok(Outcome::Judged(report)) => print_report(&rt, &report),
-        Ok(Outcome::NotYet(plan)) => println!(rt; "plan {} is not judged yet", plan.letter() as char),
+        Ok(Outcome::NotYet(plan)) => println!(rt;
+            "plan {} is not judged yet",
+            plan.letter() as char
+        ),
         Err(fault) => println!(rt; "{fault}"),
     }
 }
