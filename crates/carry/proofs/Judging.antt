@@ -10,7 +10,7 @@ use Rattle.fault.specs.declared.Fault.TheVariants.{PlanConstant, PlannedNumber}
 use Rattle.method.specs.Plans.{planned}
 use Rattle.variables.specs.Laws.{appended, assoc, comm, counted, neutral}
 use Rattle.variables.specs.Sums.{none, reading, summed, together}
-use Rattle.variables.proofs.Judged.{judged_tells}
+use Rattle.criteria.proofs.Judged.{unknown_tells}
 use Rattle.criteria.specs.Unknown.{Tells, constants, judged, newly}
 use Rattle.variables.specs.declared.sums.Sums.{Sums}
 use Rattle.entry.specs.declared.kinds.Plan.{Plan}
@@ -199,7 +199,7 @@ right s m x u n l k t table some step first c =
       in_range = c.in_range;
       planned = sym (counted rs) ∙ omega (arith, ap (λ (y : Sums). y.n) total, c.enough, b.few (omega arith));
       each = b.each;
-      verdict = subst (λ v. Tells v l k (summed rs)) (sym (c.says_so ∙ ap (judged l k) total)) (judged_tells l k (summed rs));
+      verdict = subst (λ v. Tells v l k (summed rs)) (sym (c.says_so ∙ ap (judged l k) total)) (unknown_tells l k (summed rs));
     }
 
 from_start : (s : List ℕ) (m : ℕ) (t : Lot) → table_of s ≡ Ok m → then (λ p. under_plan s p.0 p.1) (first_of (record { sheet = s; count = m; next = 0; stage = BeforePlan })) ≡ Ok (judged_lot t) → Right s t
