@@ -24,6 +24,7 @@ use Rattle.entry.specs.declared.kinds.Plan.{Plan}
 use Rattle.entry.specs.declared.kinds.Plan.TheVariants.{Known, Unknown, Window, Marks, Gauged, Mean, Paired}
 use Rattle.entry.specs.declared.kinds.Said.{Said}
 use Rattle.entry.specs.declared.kinds.Said.TheVariants.{Planned, Drum, Reading, Pair, Mark}
+use Rattle.sheet.proofs.Firsts.{behind_plan, first_step, whole_sheet}
 use Rattle.sheet.proofs.Wholes.{read_alone}
 use Rattle.sheet.specs.First.{first_of, plan_in, plan_of}
 use Rattle.sheet.specs.Reading.{Item, Progress, advanced, moved, opened, step_at}
@@ -32,7 +33,7 @@ use Rattle.sheet.specs.Sheets.{items_from, sheet_of}
 use Rattle.sheet.specs.Table.{table_of}
 use Rattle.sheet.specs.declared.order.Stage.{Stage}
 use Rattle.sheet.specs.declared.order.Stage.TheVariants.{BeforePlan}
-use Rattle.course.proofs.Samples.{behind_plan, judged_of}
+use Rattle.course.proofs.Samples.{judged_of}
 use Rattle.course.specs.Booked.{mark_in, number_in, pair_in}
 use Rattle.course.specs.Lots.{LeftOf, lot_of}
 use Rattle.acceptance.specs.Carrying.{Left, LeftBehind, LeftFrom, Rows, begun, both_sound, lot, outcome_of, under_plan}
@@ -89,29 +90,6 @@ behind s j u (Mean n c) d e v h left =
 behind s j u (Paired n) d e v h left =
     let t = told_of s j u (mean_constants n (pos 0)) (paired (mean (nat_abs n) (pos 0))) sound pair_in n d.singles e.singles v (PairedMeets n) (λ xs. mean_tells (nat_abs n) (pos 0) (summed (map difference xs))) h left.0 in
     record { xs = t.xs; read = t.read; right = t.under }
-
-plan_said : (x : Said) (p : Plan) → plan_in x ≡ Ok p → x ≡ Planned p
-plan_said (Planned q) p h = cc
-plan_said (Drum a) p h = absurd (cc)
-plan_said (Reading a) p h = absurd (cc)
-plan_said (Pair a b) p h = absurd (cc)
-plan_said (Mark b) p h = absurd (cc)
-
--- the first entry, where it is a plan
-first_step : (b : Bool) (r : Result (Item × Stage) Fault) (q : Progress) (p : Plan) → plan_of (cond b (moved q r) (Ok None, q)).0 ≡ Ok p → (b ≡ true) × (x : Item) × (u : Stage) × (r ≡ Ok (x, u)) × (x.says ≡ Planned p) × ((cond b (moved q r) (Ok None, q)).1 ≡ record { sheet = q.sheet; count = q.count; next = q.next + 1; stage = u })
-first_step true (Ok y) q p h = (refl, y.0, y.1, refl, plan_said y.0.says p h, refl)
-first_step true (Err f) q p h = absurd (cc)
-first_step false r q p h = absurd (cc)
-
-first_and_rest : (s : List ℕ) (j : ℕ) (x : Item) (u : Stage) (xs : List Item) → step_at s 0 BeforePlan ≡ Ok (x, u) → items_from s j 1 u ≡ Ok xs → items_from s (suc j) 0 BeforePlan ≡ Ok (x ∷ xs)
-unfolding items_from
-first_and_rest s j x u xs step read = rw (step, read)
-
--- the whole sheet: its first entry and the others
-whole_sheet : (s : List ℕ) (m : ℕ) (x : Item) (u : Stage) (xs : List Item) → table_of s ≡ Ok m → 0 < m → step_at s 0 BeforePlan ≡ Ok (x, u) → items_from s (m - 1) 1 u ≡ Ok xs → sheet_of s ≡ Ok (x ∷ xs)
-whole_sheet s m x u xs table some step read =
-    let e : m ≡ suc (m - 1) = omega arith in
-    ap (then (λ j. items_from s j 0 BeforePlan)) table ∙ ap (λ j. items_from s j 0 BeforePlan) e ∙ first_and_rest s (m - 1) x u xs step read
 
 module _ (s : List ℕ) (d e : Rows) where
   from_start : (m : ℕ) (v : Verdict) → table_of s ≡ Ok m → (p : Plan) (r : Progress) → first_of (record { sheet = s; count = m; next = 0; stage = BeforePlan }) ≡ Ok (p, r) → under_plan d p r ≡ Ok v → LeftBehind p r d e → Right s e (lot p v)

@@ -65,6 +65,8 @@ impl<M: Method> Bench<M> {
     }
 
     // Each call is proved once on any pages, in a function of its own; the public one adds what the ledger says.
+    // A clause names the meaning, the test of numbers and n: a record of the three would be made of them in each clause,
+    // and a model's value may hold no function.
     fn open_page(&self, pages: &mut [Page<M::Numbers>], name: u32) -> Result<(), Fault>
         ensures { CarriedOut M.Method.stands (opened (M.Method.meaning self.now.method) M.Method.stands self.now.n name) pages.old pages.new result }
     {

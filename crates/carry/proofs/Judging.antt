@@ -18,6 +18,7 @@ use Rattle.entry.specs.declared.kinds.Plan.TheVariants.{Known, Unknown, Window, 
 use Rattle.entry.specs.declared.kinds.Said.{Said}
 use Rattle.entry.specs.declared.kinds.Said.TheVariants.{Planned, Drum as Drummed, Reading, Pair, Mark}
 use Rattle.sheet.specs.Reading.{Item, Progress, advanced, moved, opened, step_at}
+use Rattle.sheet.proofs.Firsts.{behind_plan, first_step, whole_sheet}
 use Rattle.sheet.proofs.Wholes.{read_alone}
 use Rattle.sheet.specs.Rules.{Read, says}
 use Rattle.sheet.specs.Sheets.{Answered, items_from, sheet_of}
@@ -130,19 +131,6 @@ judged_plan s (Gauged n l g a) q t h = absurd (not_other s (Gauged n l g a) t h)
 judged_plan s (Mean n c) q t h = absurd (not_other s (Mean n c) t h)
 judged_plan s (Paired n) q t h = absurd (not_other s (Paired n) t h)
 
-plan_said : (x : Said) (p : Plan) → plan_in x ≡ Ok p → x ≡ Planned p
-plan_said (Planned q) p h = cc
-plan_said (Drummed a) p h = absurd (cc)
-plan_said (Reading a) p h = absurd (cc)
-plan_said (Pair a b) p h = absurd (cc)
-plan_said (Mark b) p h = absurd (cc)
-
--- the first entry, where it is a plan
-first_step : (b : Bool) (r : Result (Item × Stage) Fault) (q : Progress) (p : Plan) → plan_of (cond b (moved q r) (Ok None, q)).0 ≡ Ok p → (b ≡ true) × (x : Item) × (u : Stage) × (r ≡ Ok (x, u)) × (x.says ≡ Planned p) × ((cond b (moved q r) (Ok None, q)).1 ≡ record { sheet = q.sheet; count = q.count; next = q.next + 1; stage = u })
-first_step true (Ok y) q p h = (refl, y.0, y.1, refl, plan_said y.0.says p h, refl)
-first_step true (Err f) q p h = absurd (cc)
-first_step false r q p h = absurd (cc)
-
 -- what a judged lot tells of its plan and its books
 record Closed (n l k : ℤ) (q : Progress) (t : Lot) : Type 0 where
   in_range : constants l k ≡ true
@@ -169,21 +157,7 @@ closed_lot n l k q t h =
       says_so = ap (λ (x : Lot). x.verdict) d.1;
     }
 
-first_and_rest : (s : List ℕ) (j : ℕ) (x : Item) (u : Stage) (xs : List Item) → step_at s 0 BeforePlan ≡ Ok (x, u) → items_from s j 1 u ≡ Ok xs → items_from s (suc j) 0 BeforePlan ≡ Ok (x ∷ xs)
-unfolding items_from
-first_and_rest s j x u xs step read = rw (step, read)
-
--- the whole sheet: its first entry and the others
-whole_sheet : (s : List ℕ) (m : ℕ) (x : Item) (u : Stage) (xs : List Item) → table_of s ≡ Ok m → 0 < m → step_at s 0 BeforePlan ≡ Ok (x, u) → items_from s (m - 1) 1 u ≡ Ok xs → sheet_of s ≡ Ok (x ∷ xs)
-whole_sheet s m x u xs table some step read =
-    let e : m ≡ suc (m - 1) = omega arith in
-    ap (then (λ j. items_from s j 0 BeforePlan)) table ∙ ap (λ j. items_from s j 0 BeforePlan) e ∙ first_and_rest s (m - 1) x u xs step read
-
-behind_plan : List ℕ → ℕ → Stage → Progress
-behind_plan s m u = record { sheet = s; count = m; next = 1; stage = u }
-
 right : (s : List ℕ) (m : ℕ) (x : Item) (u : Stage) (n l k : ℤ) (t : Lot) → table_of s ≡ Ok m → 0 < m → step_at s 0 BeforePlan ≡ Ok (x, u) → x.says ≡ Planned (Unknown n l k) → Closed n l k (behind_plan s m u) t → Right s t
-unfolding behind_plan
 right s m x u n l k t table some step first c =
     let b = made t.n s (m - 1) 1 u blank c.books c.made_by in
     let rs = readings (says b.xs) in
@@ -203,7 +177,6 @@ right s m x u n l k t table some step first c =
     }
 
 from_start : (s : List ℕ) (m : ℕ) (t : Lot) → table_of s ≡ Ok m → then (λ p. under_plan s p.0 p.1) (first_of (record { sheet = s; count = m; next = 0; stage = BeforePlan })) ≡ Ok (judged_lot t) → Right s t
-unfolding behind_plan
 from_start s m t table h =
     let q : Progress = record { sheet = s; count = m; next = 0; stage = BeforePlan } in
     let f = then_ok (λ p. under_plan s p.0 p.1) (first_of q) (judged_lot t) h in

@@ -11,7 +11,7 @@ use Rattle.sheet.proofs.Runs.{Pace, refuses, steps, stops}
 use Rattle.sheet.specs.Reading.{Item, Progress, advanced}
 use Rattle.bench.specs.declared.Bench.{Bench}
 use Rattle.course.specs.Course.{Carried, Course, Stepped, carried, course_from, course_of}
-use Rattle.course.specs.declared.entries.Inspection.{Inspection}
+use Rattle.course.specs.declared.entries.Work.{Work}
 
 module _ {R X : Type 0} (m : Meaning R X) (b : Said → Option R) (n size : ℕ) (q q' : Progress) (x : ℕ) (ls : List (Line R)) where
   -- an entry was read and carried out
@@ -65,20 +65,20 @@ module _ {B R X : Type 0} (m : B → Meaning R X) (st : X → Bool) (f : Said �
   came ls ks qs r e h = (sym (ap (λ (x : Course _). x.1) e), subst (λ t. Holds (m b.method) st b.n t qs) (sym (ap (λ (x : Course _). x.0) e)) h)
 
   module _ {T : Type 0} where
-    abbrev pub Along : Inspection B R T X → Progress → Type 0
+    abbrev pub Along : Work B R T X → Progress → Type 0
     Along d q =
         (d.bench.now ≡ b) × (length d.pages.now ≡ length ps)
         × ((ls : List (Line R)) → Holds (m b.method) st b.n ls ps
         → (ks : List (Line R)) × Holds (m b.method) st b.n ks d.pages.now × (whole ls ≡ course_of (m b.method) f b.n (length ps) q d.current ks))
 
     -- a step from there, by the bench and the row that were there first
-    step : (d e : Inspection B R T X) (x : Said) (r : Result (Unit {0}) Fault) → d.bench.now ≡ b → length d.pages.now ≡ length ps → Stepped m st (carried (m d.bench.now.method) f d.bench.now.n (length d.pages.now) d.current x) d e r → (ks : List (Line R)) → Holds (m b.method) st b.n ks d.pages.now → Carried (m b.method) st b.n ks e.current e.pages.now r (carried (m b.method) f b.n (length ps) d.current x ks)
+    step : (d e : Work B R T X) (x : Said) (r : Result (Unit {0}) Fault) → d.bench.now ≡ b → length d.pages.now ≡ length ps → Stepped m st (carried (m d.bench.now.method) f d.bench.now.n (length d.pages.now) d.current x) d e r → (ks : List (Line R)) → Holds (m b.method) st b.n ks d.pages.now → Carried (m b.method) st b.n ks e.current e.pages.now r (carried (m b.method) f b.n (length ps) d.current x ks)
     step d e x r same size s ks h =
         subst (λ i. Carried (m b.method) st b.n ks e.current e.pages.now r (carried (m b.method) f b.n i d.current x ks)) size
         (subst (λ (z : Bench B). Holds (m z.method) st z.n ks d.pages.now → Carried (m z.method) st z.n ks e.current e.pages.now r (carried (m z.method) f z.n (length d.pages.now) d.current x ks)) same (s.3 ks) h)
 
-    module _ (d : Inspection B R T X) (q q' : Progress) (along : Along d q) where
-      pub along_more : (e : Inspection B R T X) (x : Item) (u : Unit {0}) → ◌≡◌ {A = Pace} (Ok (Some x), q') (advanced q) → Stepped m st (carried (m d.bench.now.method) f d.bench.now.n (length d.pages.now) d.current x.says) d e (Ok u) → Along e q'
+    module _ (d : Work B R T X) (q q' : Progress) (along : Along d q) where
+      pub along_more : (e : Work B R T X) (x : Item) (u : Unit {0}) → ◌≡◌ {A = Pace} (Ok (Some x), q') (advanced q) → Stepped m st (carried (m d.bench.now.method) f d.bench.now.n (length d.pages.now) d.current x.says) d e (Ok u) → Along e q'
       along_more e x u h s =
           let on : (ls : List (Line R)) → Holds (m b.method) st b.n ls ps → (ks : List (Line R)) × Holds (m b.method) st b.n ks e.pages.now × (whole ls ≡ course_of (m b.method) f b.n (length ps) q' e.current ks) =
           λ ls held.
@@ -87,7 +87,7 @@ module _ {B R X : Type 0} (m : B → Meaning R X) (st : X → Bool) (f : Said �
           (c.0, c.2, w.2 ∙ goes (m b.method) f b.n (length ps) q q' d.current w.0 x e.current c.0 h c.1) in
           (s.0 ∙ along.0, s.2 ∙ along.1, on)
 
-      pub along_denied : (e : Inspection B R T X) (x : Item) (g : Fault) → ◌≡◌ {A = Pace} (Ok (Some x), q') (advanced q) → Stepped m st (carried (m d.bench.now.method) f d.bench.now.n (length d.pages.now) d.current x.says) d e (Err g) → (ls : List (Line R)) → Holds (m b.method) st b.n ls ps → Came ls e.pages.now (Err (met (q.next + 1) g))
+      pub along_denied : (e : Work B R T X) (x : Item) (g : Fault) → ◌≡◌ {A = Pace} (Ok (Some x), q') (advanced q) → Stepped m st (carried (m d.bench.now.method) f d.bench.now.n (length d.pages.now) d.current x.says) d e (Err g) → (ls : List (Line R)) → Holds (m b.method) st b.n ls ps → Came ls e.pages.now (Err (met (q.next + 1) g))
       along_denied e x g h s ls held =
           let w = along.2 ls held in
           let c = step d e x.says (Err g) along.0 along.1 s w.0 w.1 in

@@ -13,6 +13,7 @@ use Rattle.rows.specs.declared.page.Page.{Page}
 use Rattle.bench.specs.Calls.{admitted}
 use Rattle.bench.specs.Ledger.{standing}
 use Rattle.entry.specs.declared.kinds.Said.{Said}
+use Rattle.sheet.proofs.Firsts.{behind_plan}
 use Rattle.sheet.specs.Reading.{Item, Progress}
 use Rattle.sheet.specs.Rules.{says}
 use Rattle.sheet.specs.Sheets.{items_from}
@@ -32,10 +33,6 @@ number_is (negsuc n) a b h = absurd (cc)
 closing : (a : Bool) (f : Fault) (r v : Verdict) → cond a (Err f) (Ok r) ≡ Ok v → (a ≡ false) × (v ≡ r)
 closing true f r v h = absurd (cc)
 closing false f r v h = (refl, cc)
-
--- a reader behind the plan of a sheet of so many entries
-abbrev pub behind_plan : List ℕ → ℕ → Stage → Progress
-behind_plan s j u = record { sheet = s; count = j; next = 1; stage = u }
 
 -- the entries behind the plan, and what the lot tells of them
 pub record Behind {R X : Type 0} (m : Meaning R X) (st : X → Bool) (f : Said → Option R) (s : List ℕ) (j : ℕ) (u : Stage) (n : ℤ) (qs : List (Page X)) (v : Verdict) (Meets : List R → Type 0) : Type 0 where

@@ -11,7 +11,7 @@ use Rattle.entry.specs.declared.kinds.Said.{Said}
 use Rattle.entry.specs.declared.kinds.Said.TheVariants.{Planned, Drum, Reading, Pair, Mark}
 use Rattle.sheet.specs.Reading.{Progress, step_at}
 use Rattle.sheet.specs.declared.order.Stage.{Stage}
-use Rattle.course.specs.declared.entries.Inspection.{Inspection}
+use Rattle.course.specs.declared.entries.Work.{Work}
 
 -- a number of a sheet as a name or a planned number; a negative one counts as 0, which is neither
 abbrev pub natural : ℤ → ℕ
@@ -61,9 +61,9 @@ abbrev pub Carried : {R X : Type 0} → Meaning R X → (X → Bool) → ℕ →
 Carried m st n ls y qs (Ok u) x = (ks : List (Line _)) × (x ≡ Ok (y, ks)) × Holds m st n ks qs
 Carried m st n ls y qs (Err f) x = (x ≡ Err f) × Holds m st n ls qs
 
--- an inspection d that answered r and came to e: it keeps its bench and its row, and whatever lines its pages show, it
+-- work d that answered r and came to e: it keeps its bench and its row, and whatever lines its pages show, it
 -- does what f says of them
-abbrev pub Stepped : {B R T X : Type 0} → (B → Meaning R X) → (X → Bool) → (List (Line R) → Result (ℕ × List (Line R)) Fault) → Inspection B R T X → Inspection B R T X → Result (Unit {0}) Fault → Type 0
+abbrev pub Stepped : {B R T X : Type 0} → (B → Meaning R X) → (X → Bool) → (List (Line R) → Result (ℕ × List (Line R)) Fault) → Work B R T X → Work B R T X → Result (Unit {0}) Fault → Type 0
 Stepped m st f d e r =
     (e.bench.now ≡ d.bench.now) × (e.pages.ghost_name ≡ d.pages.ghost_name) × (length e.pages.now ≡ length d.pages.now)
     × ((ls : List (Line _)) → Holds (m d.bench.now.method) st d.bench.now.n ls d.pages.now → Carried (m d.bench.now.method) st d.bench.now.n ls e.current e.pages.now r (f ls))

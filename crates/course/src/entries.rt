@@ -20,13 +20,13 @@ pub(crate) fn to_natural(number: i32) -> u32
 
 // A bench at work on a sheet: its pages, and the name that was called last.
 #[derive(Drop)]
-struct Inspection<'a, 'b, M: Method> {
+struct Work<'a, 'b, M: Method> {
     bench: &'a Bench<M>,
     pages: &'b mut [Page<M::Numbers>],
     current: u32,
 }
 
-impl<'a, 'b, M: Method> Inspection<'a, 'b, M> {
+impl<'a, 'b, M: Method> Work<'a, 'b, M> {
     // Names the page for what follows, and opens it where it is not open.
     fn call_drum(&mut self, name: u32) -> Result<(), Fault>
         ensures { Stepped M.Method.meaning M.Method.stands (drum (length self.old.pages.now) name) self.old self.new result }
@@ -73,13 +73,13 @@ where
     M::Reading: Booked,
     ensures { Coursed (M.Method.meaning bench.now.method) M.Method.stands bench.now.n (course_of (M.Method.meaning bench.now.method) M.Reading.Booked.booked bench.now.n (length pages.old) (progress reader.entry) 0) pages.old pages.new result }
 {
-    let mut inspection = Inspection {
+    let mut work = Work {
         bench,
         pages,
         current: 0,
     };
     while let Some(entry) = reader.read()? {
-        within(inspection.carry_out(entry.said()), entry.part().place)?;
+        within(work.carry_out(entry.said()), entry.part().place)?;
     }
     Ok(())
 }

@@ -1,8 +1,8 @@
 // A lot: a bench is set up for its plan, the entries behind the plan are carried out, and the lot is judged.
-ghost use Rattle.std.specs.Prelude.{◌≡◌, List, [], length, Ok, Err, MatchResult};
-ghost use Rattle.bench.specs.Ledger.{Holds, Line};
+ghost use Rattle.std.specs.Prelude.{◌≡◌, [], length, Ok, Err, MatchResult};
+ghost use Rattle.bench.specs.Ledger.{Holds};
 ghost use Rattle.course.specs.Course.{natural};
-ghost use Rattle.course.specs.Lots.{LeftOf, LeftUnder, lot_of, lot_under, ready, under, verdict_after, verdict_on};
+ghost use Rattle.course.specs.Lots.{LeftOf, LeftUnder, lot_of, lot_under, ready, under, verdict_after};
 ghost use Rattle.method.specs.Answers.{given};
 ghost use Rattle.sheet.specs.Reading.{progress};
 
@@ -26,23 +26,6 @@ fn set_up<M: Method + Copy>(
     Bench::set_up(method, to_natural(n), pages).map_err(|(fault, _)| fault.at(1))
 }
 
-// Closes the bench, where the planned number of readings stands, and judges the lot.
-fn close<M: Method + Copy>(bench: Bench<M>, pages: &[Page<M::Numbers>]) -> Result<Verdict, Fault>
-    ensures { (ls : List (Line M.Reading)) → Holds (M.Method.meaning bench.method) M.Method.stands bench.n ls pages.now → result ≡ verdict_on (M.Method.meaning bench.method) bench.n ls }
-{
-    match bench.close(pages) {
-        Ok(lot) => {
-            let verdict = lot.judge();
-            let _ = lot.into_method();
-            Ok(verdict)
-        }
-        Err((fault, bench)) => {
-            let _ = bench.into_method();
-            Err(fault)
-        }
-    }
-}
-
 // Carries out what follows the plan, and judges the lot.
 fn finish<M: Method + Copy>(
     bench: Bench<M>,
@@ -55,7 +38,7 @@ where
     ensures pages { Holds (M.Method.meaning bench.method) M.Method.stands bench.n [] pages.old → Holds (M.Method.meaning bench.method) M.Method.stands bench.n (under (M.Method.meaning bench.method) M.Reading.Booked.booked (length pages.old) bench.n (progress reader.entry)).0 pages.new }
 {
     match carry_entries(&bench, pages, reader) {
-        Ok(()) => close(bench, pages),
+        Ok(()) => bench.close_and_judge(pages),
         Err(fault) => {
             let _ = bench.into_method();
             Err(fault)

@@ -40,7 +40,8 @@ pub fn number(text: &[u8]) -> Result<i32, Fault>
     }
 }
 
-// As many numbers as `found` has places, a comma between each and the next.
+// As many numbers as `found` has places, a comma between each and the next. It stands apart from `numbers` since a
+// loop beside an iterator is not proved where the function has a const parameter.
 fn fill(found: &mut [i32], text: &[u8]) -> Result<(), Fault>
     requires { 0 < length found.old }
     ensures { then (λ _. Ok found.new) result ≡ numbers_of (length found.old) text.now }

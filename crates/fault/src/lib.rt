@@ -111,7 +111,7 @@ impl Fault {
         }
     }
 
-    // The same fault, met at entry i of a sheet.
+    // The same fault, met at entry i of a sheet. Each case has an arm, since each that has an entry holds its own.
     pub fn at(self, i: u16) -> Fault
         ensures { result ≡ met i self }
     {

@@ -19,6 +19,7 @@ pub struct Plan<M> {
 }
 
 impl<M: Method + Copy> Plan<M> {
+    // Proved by itself, so that what is promised of every past stands on its answer alone.
     fn replay_calls(
         &self,
         pages: &mut [Page<M::Numbers>],

@@ -8,6 +8,7 @@ use entry::{Entry, Part, said};
 use fault::{Fault, within};
 use std::ops::Range;
 
+// It counts on by itself, since it is asked for one entry at a time.
 #[derive(Debug, Drop)]
 pub struct Reader<'a> {
     sheet: &'a [u8],

@@ -68,6 +68,7 @@ pub(crate) fn table(sheet: &[u8]) -> Result<u16, Fault>
     if count == 0 || sheet.len() < table_end(sheet) {
         return Err(Fault::SheetSize);
     }
+    // By number: an entry is looked at with the one before it, and there is no slice of them.
     for i in 0..count {
         if !is_placed(sheet, i) {
             return Err(Fault::EntryPlace(i + 1));

@@ -38,6 +38,7 @@ impl Passing for Gauge {
     ghost passed = { λ g. conforms g.low g.high };
 
     fn pass(&self, r: i32) -> Option<bool> {
+        // The two comparisons, and no range: with its contains the clause stays open.
         is_reading(r).then_some(self.low <= r && r <= self.high)
     }
 }

@@ -12,7 +12,7 @@ pub returns-in_err-entry : goal.returns-in_err-entry
 returns-in_err-entry g c ls h =
     let p = err_from_is_err_and c.from_residual.result c.from_residual.ensures.1 in
     let l = c.loop-entry in
-    let w = along_unread g.M.Method.meaning g.M.Method.stands g.M.Reading.Booked.booked c.args.bench.now c.args.pages.now (progress c.args.reader) l.inspection (progress l.reader) _ l.invariant.1 _ c.in_err-entry.ensures ls h in
+    let w = along_unread g.M.Method.meaning g.M.Method.stands g.M.Reading.Booked.booked c.args.bench.now c.args.pages.now (progress c.args.reader) l.work (progress l.reader) _ l.invariant.1 _ c.in_err-entry.ensures ls h in
     let same = sym l.invariant.0 in
     rw (p.1, p.2) (search (rules, w))
 
@@ -29,7 +29,7 @@ loop-entry-preserved g c =
     let st = g.M.Method.stands in
     let f = g.M.Reading.Booked.booked in
     let l = c.loop-entry in
-    let d = l.inspection in
+    let d = l.work in
     let e = c.carry_out.new.self in
     let q = progress l.reader in
     let q' = progress c.read.new.self in
@@ -46,7 +46,7 @@ returns-in_err-within g c ls h =
     let st = g.M.Method.stands in
     let f = g.M.Reading.Booked.booked in
     let l = c.loop-entry in
-    let d = l.inspection in
+    let d = l.work in
     let e = c.carry_out.new.self in
     let q = progress l.reader in
     let q' = progress c.read.new.self in
@@ -67,6 +67,6 @@ returns g c ls h =
     let q' = progress c.read.new.self in
     let n : c.in_ok-entry.field-0 ≡ None = c.in_default.is in
     let k = subst (λ o. ◌≡◌ {A = Pace} (seen (Ok o), q') (advanced (progress l.reader))) n c.in_ok-entry.ensures in
-    let w = along_ended g.M.Method.meaning g.M.Method.stands g.M.Reading.Booked.booked c.args.bench.now c.args.pages.now (progress c.args.reader) l.inspection (progress l.reader) q' l.invariant.1 k ls h in
+    let w = along_ended g.M.Method.meaning g.M.Method.stands g.M.Reading.Booked.booked c.args.bench.now c.args.pages.now (progress c.args.reader) l.work (progress l.reader) q' l.invariant.1 k ls h in
     let same = sym l.invariant.0 in
     search (rules, w)

@@ -2,7 +2,7 @@ use Rattle.std.proofs.Common.{length, sym, subst, refl}
 use Rattle.bench.specs.Ledger.{reading}
 use Rattle.course.specs.Course.{Carried, booking}
 use Rattle.course.proofs.Drums.{reads_on}
-use Rattle.course.proofs.entries.Inspection.enter.Goals as goal
+use Rattle.course.proofs.entries.Work.enter.Goals as goal
 
 pub returns : goal.returns
 returns g c =

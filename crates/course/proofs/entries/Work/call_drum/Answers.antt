@@ -2,7 +2,7 @@ use Rattle.std.proofs.Common.{ltb, [], ◌∷◌, ◌++◌, length, sym, refl, s
 use Rattle.bench.specs.Calls.{after, named}
 use Rattle.bench.specs.Ledger.{Holds, is_open, line, opening}
 use Rattle.course.proofs.Drums.{Goes, denied, goes_on}
-use Rattle.course.proofs.entries.Inspection.call_drum.Goals as goal
+use Rattle.course.proofs.entries.Work.call_drum.Goals as goal
 
 pub returns-in_default : goal.returns-in_default
 returns-in_default g c =
