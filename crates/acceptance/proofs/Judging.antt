@@ -1,5 +1,5 @@
 -- The verdict of a judged sheet is the plan's, of the sheet's readings, which stand.
-use Rattle.std.proofs.Common.{◌≡◌, ℕ, suc, ◌+◌, ◌-◌, ◌<◌, Bool, true, false, cond, ltb, List, ◌∷◌, map, length, ℤ, pos, nat_abs, None, Ok, Err, Option, Result, sym, refl, ap, ◌∙◌, subst, arith}
+use Rattle.std.proofs.Common.{◌≡◌, ℕ, ◌-◌, Bool, true, false, ltb, List, ◌∷◌, map, length, ℤ, pos, nat_abs, Ok, Err, Option, Result, sym, refl, ap, ◌∙◌, subst}
 use Rattle.std.proofs.lemmas.Bool.{ltb-true}
 use Rattle.fault.proofs.Passed.{then_ok}
 use Rattle.fault.specs.Located.{then}
@@ -23,13 +23,13 @@ use Rattle.rows.specs.declared.page.Page.{Page}
 use Rattle.entry.specs.declared.kinds.Plan.{Plan}
 use Rattle.entry.specs.declared.kinds.Plan.TheVariants.{Known, Unknown, Window, Marks, Gauged, Mean, Paired}
 use Rattle.entry.specs.declared.kinds.Said.{Said}
-use Rattle.entry.specs.declared.kinds.Said.TheVariants.{Planned, Drum, Reading, Pair, Mark}
+use Rattle.entry.specs.declared.kinds.Said.TheVariants.{Planned}
 use Rattle.sheet.proofs.Firsts.{behind_plan, first_step, whole_sheet}
 use Rattle.sheet.proofs.Wholes.{read_alone}
-use Rattle.sheet.specs.First.{first_of, plan_in, plan_of}
-use Rattle.sheet.specs.Reading.{Item, Progress, advanced, moved, opened, step_at}
+use Rattle.sheet.specs.First.{first_of, plan_of}
+use Rattle.sheet.specs.Reading.{Item, Progress, advanced, opened, step_at}
 use Rattle.sheet.specs.Rules.{Read, says}
-use Rattle.sheet.specs.Sheets.{items_from, sheet_of}
+use Rattle.sheet.specs.Sheets.{items_from}
 use Rattle.sheet.specs.Table.{table_of}
 use Rattle.sheet.specs.declared.order.Stage.{Stage}
 use Rattle.sheet.specs.declared.order.Stage.TheVariants.{BeforePlan}

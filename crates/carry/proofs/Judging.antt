@@ -1,5 +1,5 @@
 -- The verdict of a judged sheet is the plan's, of the sheet's readings.
-use Rattle.std.proofs.Common.{◌≡◌, ℕ, zero, suc, ◌+◌, ◌-◌, ◌<◌, ◌≤◌, Bool, true, false, cond, ◌&&◌, ltb, leb, List, [], ◌∷◌, ◌++◌, ℤ, pos, negsuc, None, Ok, Err, Result, sym, refl, ap, ◌∙◌, subst, ⊎_elim, arith}
+use Rattle.std.proofs.Common.{◌≡◌, ℕ, zero, suc, ◌+◌, ◌-◌, ◌<◌, ◌≤◌, Bool, true, false, cond, ◌&&◌, ltb, leb, List, [], ◌∷◌, ◌++◌, ℤ, pos, negsuc, Ok, Err, Result, sym, refl, ap, ◌∙◌, subst, ⊎_elim, arith}
 use Rattle.std.proofs.ByRecursion.{All-append}
 use Rattle.std.proofs.lemmas.Bool.{ltb-false, ltb-true}
 use Rattle.std.specs.List.{AllByRecursion}
@@ -17,7 +17,7 @@ use Rattle.entry.specs.declared.kinds.Plan.{Plan}
 use Rattle.entry.specs.declared.kinds.Plan.TheVariants.{Known, Unknown, Window, Marks, Gauged, Mean, Paired}
 use Rattle.entry.specs.declared.kinds.Said.{Said}
 use Rattle.entry.specs.declared.kinds.Said.TheVariants.{Planned, Drum as Drummed, Reading, Pair, Mark}
-use Rattle.sheet.specs.Reading.{Item, Progress, advanced, moved, opened, step_at}
+use Rattle.sheet.specs.Reading.{Item, Progress, advanced, opened, step_at}
 use Rattle.sheet.proofs.Firsts.{behind_plan, first_step, whole_sheet}
 use Rattle.sheet.proofs.Wholes.{read_alone}
 use Rattle.sheet.specs.Rules.{Read, says}
@@ -26,7 +26,7 @@ use Rattle.sheet.specs.Table.{table_of}
 use Rattle.sheet.specs.declared.order.Stage.{Stage}
 use Rattle.sheet.specs.declared.order.Stage.TheVariants.{BeforePlan}
 use Rattle.carry.specs.Booking.{Books, carried_out}
-use Rattle.sheet.specs.First.{first_of, plan_in, plan_of}
+use Rattle.sheet.specs.First.{first_of, plan_of}
 use Rattle.carry.specs.Carrying.{Came, Lot, blank, books_from, books_of, closed, lot_under, other, outcome_of, planned_number, under_plan}
 use Rattle.carry.specs.Carrying.Came.{judged_lot, not_yet}
 use Rattle.carry.specs.Judged.{JudgedBySheet, Right, readings}

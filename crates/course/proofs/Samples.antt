@@ -14,7 +14,7 @@ use Rattle.bench.specs.Calls.{admitted}
 use Rattle.bench.specs.Ledger.{standing}
 use Rattle.entry.specs.declared.kinds.Said.{Said}
 use Rattle.sheet.proofs.Firsts.{behind_plan}
-use Rattle.sheet.specs.Reading.{Item, Progress}
+use Rattle.sheet.specs.Reading.{Item}
 use Rattle.sheet.specs.Rules.{says}
 use Rattle.sheet.specs.Sheets.{items_from}
 use Rattle.sheet.specs.declared.order.Stage.{Stage}

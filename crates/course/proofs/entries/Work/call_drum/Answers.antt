@@ -1,7 +1,7 @@
-use Rattle.std.proofs.Common.{ltb, [], ◌∷◌, ◌++◌, length, sym, refl, subst, rules}
-use Rattle.bench.specs.Calls.{after, named}
-use Rattle.bench.specs.Ledger.{Holds, is_open, line, opening}
-use Rattle.course.proofs.Drums.{Goes, denied, goes_on}
+use Rattle.std.proofs.Common.{ltb, [], ◌∷◌, ◌++◌, length, refl, subst, rules}
+use Rattle.bench.specs.Calls.{named}
+use Rattle.bench.specs.Ledger.{Holds, is_open, line}
+use Rattle.course.proofs.Drums.{denied}
 use Rattle.course.proofs.entries.Work.call_drum.Goals as goal
 
 pub returns-in_default : goal.returns-in_default
