@@ -24,7 +24,8 @@ fn blank<N>(numbers: N) -> Page<N> {
     Page { name: 0, numbers }
 }
 
-// The drums of a row, each with the number of readings that its page has.
+// The drums of a row, each with the number of readings that its page has. A page has no text of its own: what its
+// numbers count belongs to the plan.
 fn print_drums<N, F: Fn(&N) -> u32>(rt: &HostRuntime, pages: &[Page<N>], count: F) -> io::Result<()>
     requires { F.IsAlwaysCallable count }
 {

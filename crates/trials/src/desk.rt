@@ -9,6 +9,7 @@ pub const DRUMS: usize = 6;
 // The names that a lot uses; more than there are pages.
 const NAMES: u32 = 8;
 
+// Written out anew, as the whole of this record is.
 const HIGHEST_NAME: u32 = 255;
 
 // A reading, and the drum that it is entered on.

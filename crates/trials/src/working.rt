@@ -125,7 +125,7 @@ impl<'a, M: Method + Copy> Work<'a, M> {
         }
     }
 
-    // Strikes each drum that holds a wrong slip.
+    // Strikes each drum that holds a wrong slip. By number, since a strike changes the slips that are gone through.
     fn strike_wrong(&mut self) -> Result<(), TrialError> {
         for slip in self.desk.planned()..self.desk.number() {
             if let Some(name) = self.desk.drum_of(slip) {
