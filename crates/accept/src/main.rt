@@ -7,7 +7,7 @@ use acceptance::{Judged, Rows};
 use attributes::counts::Counts;
 use entry::Plan;
 use fault::Fault;
-use rows::Page;
+use rows::{MOST_PAGES, Page};
 use std::io;
 use std::io::Read;
 use variables::sums::Sums;
@@ -16,9 +16,6 @@ use words::Sentence;
 // One byte more than the longest sheet, so that a longer one is refused and not read without bound.
 // It stands in judge too: no library below both programs reads input.
 const MOST_READ: u64 = 65_536;
-
-// The pages of the bench.
-const PAGES: usize = 64;
 
 fn blank<N>(numbers: N) -> Page<N> {
     Page { name: 0, numbers }
@@ -48,9 +45,9 @@ fn main(rt: HostRuntime) -> io::Result<()> {
     let mut sheet = Vec::new(rt.alloc());
     rt.stdin().take(MOST_READ).read_to_end(&mut sheet)?;
     let none = Sums { n: 0, s: 0, q: 0 };
-    let mut singles = [blank(none); PAGES];
-    let mut doubles = [blank((none, none)); PAGES];
-    let mut counts = [blank(Counts { n: 0, z: 0 }); PAGES];
+    let mut singles = [blank(none); MOST_PAGES];
+    let mut doubles = [blank((none, none)); MOST_PAGES];
+    let mut counts = [blank(Counts { n: 0, z: 0 }); MOST_PAGES];
     let mut rows = Rows {
         singles: &mut singles,
         doubles: &mut doubles,
@@ -62,6 +59,7 @@ fn main(rt: HostRuntime) -> io::Result<()> {
     };
     println!(rt; "{} {}", plan.letter() as char, plan.planned())?;
     match plan {
+        // Each reading is entered into both tallies.
         Plan::Window { .. } => print_drums(&rt, rows.doubles, |pair| pair.0.n)?,
         Plan::Marks { .. } | Plan::Gauged { .. } => print_drums(&rt, rows.counts, |marks| marks.n)?,
         _ => print_drums(&rt, rows.singles, |sums| sums.n)?,

@@ -1,4 +1,4 @@
-// Inspection by attributes: tallies of marks, and the method of marks.
+// Inspection by attributes: tallies of marks, and the criterion of marks.
 #![tactic(auto)]
 
 pub mod counts;

@@ -25,18 +25,19 @@ impl Marks {
         ensures { given (λ m. m.most) result ≡ newly most }
     {
         if (0..=GREATEST).contains(&most) {
-            Ok(Marks { most: most as u32 })
+            let most = most.unsigned_abs();
+            Ok(Marks { most })
         } else {
             Err(Fault::PlanConstant(0))
         }
     }
 
-    // What is said of the lot that the marks were taken from.
+    // What is said of the lot that the marks were taken from. It tells more than a criterion's verdict has to.
     pub fn judge(self, t: MarkTally) -> Verdict
         ensures value { result ≡ judged self.most t.counts }
         ensures exact { Tells result self.most t.counts }
     {
-        Verdict::at_most(t.numbers().z as i64, self.most as i64)
+        Verdict::at_most(i64::from(t.numbers().z), i64::from(self.most))
     }
 }
 

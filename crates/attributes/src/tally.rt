@@ -56,7 +56,7 @@ impl Tallying for MarkTally {
     }
 
     fn single(conforms: bool) -> Result<MarkTally, Fault> {
-        let z = if conforms { 0 } else { 1 };
+        let z = u32::from(!conforms);
         Ok(MarkTally {
             counts: Counts { n: 1, z },
         })

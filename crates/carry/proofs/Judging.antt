@@ -3,7 +3,7 @@ use Rattle.std.proofs.Common.{◌≡◌, ℕ, zero, suc, ◌+◌, ◌-◌, ◌<�
 use Rattle.std.proofs.ByRecursion.{All-append}
 use Rattle.std.proofs.lemmas.Bool.{ltb-false, ltb-true}
 use Rattle.std.specs.List.{AllByRecursion}
-use Rattle.fault.proofs.Passed.{located_ok, then_ok}
+use Rattle.fault.proofs.Passed.{located_ok, then_ok, not_refused}
 use Rattle.fault.specs.Located.{located, then}
 use Rattle.fault.specs.declared.Fault.{Fault}
 use Rattle.fault.specs.declared.Fault.TheVariants.{PlanConstant, PlannedNumber}
@@ -89,11 +89,6 @@ made n s (suc j) i t b e h =
     let q = then_ok (λ c. books_from n s j (i + 1) x.1 c) (located (i + 1) (carried_out n x.0.says b)) e p.2 in
     made_more n s j i t x.1 x.0 b q.0 e p.1 (located_ok (i + 1) (carried_out n x.0.says b) q.0 q.1) (made n s j (i + 1) x.1 q.0 e q.2)
 
--- a lot that was closed
-closing : (a : Bool) (f : Fault) (r t : Lot) → cond a (Err f) (Ok r) ≡ Ok t → (a ≡ false) × (t ≡ r)
-closing true f r t h = absurd (cc)
-closing false f r t h = (refl, cc)
-
 number_is : (n : ℤ) (j : ℕ) → planned_number n ≡ Ok j → n ≡ pos j
 number_is (pos m) j h = ap pos (inner (planned (pos m)) (leb 2 m && leb m 50) m j h)
   where
@@ -146,7 +141,7 @@ closed_lot n l k q t h =
     let b = then_ok _ (located 1 (planned_number n)) t a.2 in
     let j = b.0 in
     let c = then_ok (closed j l k) (books_of j q blank) t b.2 in
-    let d = closing (ltb c.0.total.n j) _ _ t c.2 in
+    let d = not_refused (ltb c.0.total.n j) _ _ t c.2 in
     let e : t.n ≡ j = ap (λ (x : Lot). x.n) d.1 in
     record {
       in_range = constants_ok l k a.0 (located_ok 1 (newly l k) a.0 a.1);

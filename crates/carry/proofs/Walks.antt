@@ -1,10 +1,9 @@
 -- One more entry of a sheet that is carried out.
-use Rattle.std.proofs.Common.{◌≡◌, ℕ, suc, ◌+◌, ◌-◌, Some, None, Ok, Err, Result, sym, refl, ap, ◌∙◌, inl, inr, ⊎_elim, arith}
+use Rattle.std.proofs.Common.{◌≡◌, ℕ, suc, ◌+◌, ◌-◌, Some, None, Ok, Err, Result, sym, ap, ◌∙◌, inl, inr, ⊎_elim, arith}
 use Rattle.fault.specs.Faults.{met}
 use Rattle.fault.specs.declared.Fault.{Fault}
 use Rattle.sheet.specs.Reading.{Item, Progress, advanced}
 use Rattle.sheet.proofs.Runs.{Pace, steps, stops, refuses}
-use Rattle.fault.specs.Located.{located}
 use Rattle.sheet.specs.Sheets.{Answered}
 use Rattle.carry.specs.Booking.{Books, Done, carried_out, view}
 use Rattle.carry.specs.Carrying.{books_from, books_of}
@@ -59,8 +58,3 @@ module _ (n : ℕ) (q₀ : Progress) (b₀ : Books) where
     along_denied r f e done =
         let d = rw e at done in
         ⊎_elim (λ k. inl (ap (λ z. Err (met (q.next + 1) z)) k)) (λ k. inr (sym (along.1 ∙ denied n q q' (view b) x f paced (rw along.0 at k)))) d.2
-
--- a refusal that was met at an entry
-pub met_at : (i : ℕ) (r : Result (Unit {0}) Fault) (f : Fault) → ◌≡◌ {A = Result (Unit {0}) Fault} (Err f) (located i r) → (g : Fault) × (r ≡ Err g) × (f ≡ met i g)
-met_at i (Ok a) f h = absurd (cc)
-met_at i (Err g) f h = (g, refl, cc)

@@ -1,8 +1,7 @@
 -- One more entry of a course.
-use Rattle.std.proofs.Common.{◌≡◌, ℕ, suc, ◌+◌, ◌-◌, Bool, List, length, Some, None, Ok, Err, Option, Result, sym, refl, ap, ◌∙◌, subst, arith}
+use Rattle.std.proofs.Common.{◌≡◌, ℕ, suc, ◌+◌, ◌-◌, Bool, List, length, Some, None, Ok, Err, Option, Result, sym, ap, ◌∙◌, subst, arith}
 use Rattle.entry.specs.declared.kinds.Said.{Said}
 use Rattle.fault.specs.Faults.{met}
-use Rattle.fault.specs.Located.{located}
 use Rattle.fault.specs.declared.Fault.{Fault}
 use Rattle.method.specs.Meaning.{Meaning}
 use Rattle.bench.specs.Ledger.{Holds, Line}
@@ -46,12 +45,7 @@ module _ {R X : Type 0} (m : Meaning R X) (b : Said → Option R) (n size : ℕ)
       let k : q.count - q.next ≡ 0 = omega (arith, w) in
       rw k
 
--- a refusal that was met at an entry
-pub met_at : {A : Type 0} (i : ℕ) (r : Result A Fault) (f : Fault) → ◌≡◌ {A = Result A Fault} (Err f) (located i r) → (g : Fault) × (r ≡ Err g) × (f ≡ met i g)
-met_at i (Ok a) f h = absurd (cc)
-met_at i (Err g) f h = (g, refl, cc)
-
--- an inspection d of a sheet that was read to q began on the bench b, with the pages ps and at q₀: its pages show lines
+-- work d on a sheet that was read to q began on the bench b, with the pages ps and at q₀: its pages show lines
 -- from which the course that is left comes to what the whole course does
 module _ {B R X : Type 0} (m : B → Meaning R X) (st : X → Bool) (f : Said → Option R) (b : Bench B) (ps : List (Page X)) (q₀ : Progress) where
   abbrev pub whole : List (Line R) → Course R

@@ -1,13 +1,12 @@
 -- What a lot comes to: a bench is set up for its plan, then come the entries behind the plan, then the verdict.
-use Rattle.std.specs.Prelude.{◌≡◌, ℕ, Bool, cond, List, [], length, ℤ, Ok, Err, Option, Result, nat_lt}
+use Rattle.std.specs.Prelude.{◌≡◌, ℕ, Bool, List, [], length, ℤ, Ok, Err, Option, Result}
 use Rattle.fault.specs.Located.{located, then}
 use Rattle.fault.specs.declared.Fault.{Fault}
-use Rattle.fault.specs.declared.Fault.TheVariants.{ReadingsMissing}
 use Rattle.method.specs.Meaning.{Meaning}
 use Rattle.method.specs.declared.verdict.Verdict.{Verdict}
 use Rattle.rows.specs.declared.page.Page.{Page}
 use Rattle.bench.specs.Calls.{admitted}
-use Rattle.bench.specs.Ledger.{Holds, Line, standing}
+use Rattle.bench.specs.Ledger.{Holds, judging}
 use Rattle.entry.specs.declared.kinds.Said.{Said}
 use Rattle.sheet.specs.Reading.{Progress}
 use Rattle.course.specs.Course.{Course, course_of, natural}
@@ -16,10 +15,6 @@ use Rattle.course.specs.Course.{Course, course_of, natural}
 abbrev pub ready : {R X : Type 0} → Meaning R X → ℕ → ℤ → Result (Unit {0}) Fault
 ready m size n = located 1 (admitted m (natural n) size)
 
--- what is said of lines, where the planned number of readings stands in them
-abbrev pub verdict_on : {R X : Type 0} → Meaning R X → ℕ → List (Line R) → Result Verdict Fault
-verdict_on m n ls = cond (nat_lt (length (standing ls)) n) (Err ReadingsMissing) (Ok (m.verdict (m.total (standing ls))))
-
 -- f tells which reading an entry books
 module _ {R X : Type 0} (m : Meaning R X) (f : Said → Option R) where
   -- the entries behind the plan, from an empty ledger on
@@ -27,7 +22,7 @@ module _ {R X : Type 0} (m : Meaning R X) (f : Said → Option R) where
   under size n q = course_of m f n size q 0 []
 
   abbrev pub verdict_after : ℕ → ℕ → Progress → Result Verdict Fault
-  verdict_after size n q = then (λ _. verdict_on m n (under size n q).0) (under size n q).1
+  verdict_after size n q = then (λ _. judging m n (under size n q).0) (under size n q).1
 
   -- what the lot comes to
   abbrev pub lot_under : ℕ → ℤ → Progress → Result Verdict Fault

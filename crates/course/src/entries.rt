@@ -31,6 +31,7 @@ impl<'a, 'b, M: Method> Work<'a, 'b, M> {
     fn call_drum(&mut self, name: u32) -> Result<(), Fault>
         ensures { Stepped M.Method.meaning M.Method.stands (drum (length self.old.pages.now) name) self.old self.new result }
     {
+        // Where the name is refused the work ends, and the name is not asked for again.
         self.current = name;
         match self.bench.open(self.pages, name) {
             Ok(()) => Ok(()),
@@ -76,6 +77,7 @@ where
     let mut work = Work {
         bench,
         pages,
+        // 0 is no name: no drum was called yet.
         current: 0,
     };
     while let Some(entry) = reader.read()? {

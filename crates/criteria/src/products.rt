@@ -24,7 +24,7 @@ pub(crate) fn above_limit(limit: i32, t: Tally) -> i64
     ensures size { unsigned_abs result ≤ 200000 }
 {
     let x = t.numbers();
-    x.s - times::<50, 2_000>(x.n as i64, limit as i64)
+    x.s - times::<50, 2_000>(i64::from(x.n), i64::from(limit))
 }
 
 // D = N × Q - S × S
@@ -33,7 +33,7 @@ pub(crate) fn spread_of(t: Tally) -> i64
     ensures size { unsigned_abs result ≤ 10000000000 }
 {
     let x = t.numbers();
-    times::<50, 200_000_000>(x.n as i64, x.q as i64) - times::<100_000, 100_000>(x.s, x.s)
+    times::<50, 200_000_000>(i64::from(x.n), x.q as i64) - times::<100_000, 100_000>(x.s, x.s)
 }
 
 // 1,000,000 × (N - 1) × A × A
@@ -41,7 +41,7 @@ pub(crate) fn million_squares(t: Tally, a: i64) -> i64
     requires { unsigned_abs a ≤ 200000 }
     ensures { result ≡ pos 1000000 *ℤ (pos t.sums.n -ℤ pos 1) *ℤ a *ℤ a }
 {
-    let millions = times::<1_000_000, 50>(1_000_000, t.count() as i64 - 1);
+    let millions = times::<1_000_000, 50>(1_000_000, i64::from(t.count()) - 1);
     let once = times::<50_000_000, 200_000>(millions, a);
     times::<10_000_000_000_000, 200_000>(once, a)
 }

@@ -5,7 +5,7 @@ ghost use Rattle.criteria.specs.Student.{Falling, student, students};
 // The most degrees of freedom that the table has.
 const MOST: u32 = 20;
 
-// The fractiles for 1 degree of freedom and more, in thousandths.
+// The fractiles for 1 degree of freedom and more, in thousandths: a table, as the rules print them.
 const FRACTILES: [u32; 20] = [
     6_314, 2_920, 2_353, 2_132, 2_015, 1_943, 1_895, 1_860, 1_833, 1_812, 1_796, 1_782, 1_771,
     1_761, 1_753, 1_746, 1_740, 1_734, 1_729, 1_725,

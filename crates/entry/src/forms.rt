@@ -7,7 +7,7 @@ use crate::kinds::{Plan, Said};
 use crate::numbers::numbers;
 use fault::Fault;
 
-// The plan that a letter and the text behind it are.
+// The plan that a letter, a byte of the sheet, and the text behind it are.
 fn plan(letter: u8, text: &[u8]) -> Result<Plan, Fault>
     ensures { result ≡ plan_of letter text.now }
 {

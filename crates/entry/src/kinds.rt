@@ -70,7 +70,7 @@ pub enum Entry<'a> {
 }
 
 impl Plan {
-    // The letter of the plan's entry.
+    // The letter of the plan's entry, a byte of the sheet.
     pub fn letter(self) -> u8
         ensures { result ≡ letter_of self }
     {

@@ -87,6 +87,7 @@ impl Fault {
         }
     }
 
+    // The entry, as it is printed: 0 is none by the rules.
     pub fn entry(self) -> u16
         ensures { result ≡ entry self }
     {

@@ -16,7 +16,7 @@ impl From<AllocError> for Fault {
 impl<T: Drop> From<AllocFailed<T>> for Fault {
     ghost from_gives = { λ _ f. f ≡ NoMemory };
 
-    fn from(_e: AllocFailed<T>) -> Fault {
-        Fault::from(AllocError)
+    fn from(failed: AllocFailed<T>) -> Fault {
+        Fault::from(AllocError::from(failed))
     }
 }

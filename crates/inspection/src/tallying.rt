@@ -15,7 +15,7 @@ pub trait Tallying: Copy {
     // what is kept of lists of readings
     ghost kept: { Tallied Self.Reading Self.Numbers };
 
-    // whatever the method decides by
+    // they hold whatever a method allows and says
     ghost laws: { (a : ℕ → Bool) (j : Self.Numbers → Verdict) → Laws (inspected kept a j) };
 
     // the plain numbers of a tally

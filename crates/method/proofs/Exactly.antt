@@ -7,10 +7,10 @@ use Rattle.method.specs.declared.verdict.Verdict.{Verdict}
 use Rattle.method.specs.declared.verdict.Verdict.TheVariants.{NotAccepted}
 use Rattle.method.specs.Verdicts.{Exactly, compared, yes, yes_compared}
 
-le_from : (a b : ℤ) → int_le a b ≡ true → a ≤ℤ b
+pub le_from : (a b : ℤ) → int_le a b ≡ true → a ≤ℤ b
 le_from a b h = omega (arith, ints)
 
-le_to : (a b : ℤ) → a ≤ℤ b → int_le a b ≡ true
+pub le_to : (a b : ℤ) → a ≤ℤ b → int_le a b ≡ true
 le_to a b h = grind (arith, ints)
 
 -- a comparison

@@ -3,16 +3,11 @@ use Rattle.std.proofs.Common.{◌≡◌, ◌≤◌, true, ℤ, pos, ◌-ℤ◌, 
 use lib.Signed.{le_z}
 use borrow.Author.Differences.{ints}
 use Rattle.std.proofs.lemmas.Bool.{and_from, and_parts}
+use Rattle.method.proofs.Exactly.{le_from, le_to}
 use Rattle.criteria.specs.Criteria.{factor}
 use Rattle.criteria.specs.Unknown.{constants}
 use Rattle.plans.specs.Piles.{window_constants}
 use Rattle.variables.specs.Sums.{reading}
-
-pub le_to : (a b : ℤ) → a ≤ℤ b → le_z a b ≡ true
-le_to a b h = grind (arith, ints)
-
-le_from : (a b : ℤ) → le_z a b ≡ true → a ≤ℤ b
-le_from a b h = omega (arith, ints)
 
 -- a reading is small
 pub small : (u : ℤ) → reading u ≡ true → nat_abs u ≤ 2000

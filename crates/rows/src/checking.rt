@@ -25,7 +25,7 @@ fn orderly<N>(pages: &[Page<N>]) -> bool
     true
 }
 
-// Whether no name stands twice.
+// Whether no name stands twice. A row is gone through by a `for` over its pages here and below, as the rules have it.
 #[tactic(auto, using(std::proofs::lemmas::Grind::common_steps, crate::proofs::Steps::place_length))]
 fn apart<N>(pages: &[Page<N>]) -> bool
     ensures { result ≡ once pages.now }

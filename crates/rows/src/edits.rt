@@ -9,7 +9,7 @@ use crate::page::Page;
 pub fn put<N: Copy>(pages: &mut [Page<N>], i: usize, page: Page<N>)
     ensures { pages.new ≡ slice_set pages.old i page }
 {
-    // a slice's get_mut tells of the length only, and nothing of the page
+    // With get_mut nothing is known of the row that is left.
     if i < pages.len() {
         pages[i] = page;
     }

@@ -37,7 +37,8 @@ fn five(name: u32) -> Page<Sums> {
     page(name, 1, 5, 25)
 }
 
-// Makes one call, whose answer a past does not keep: the verdict on the lot that it closed, or the bench, and the number where it was refused.
+// Makes one call: the verdict on the lot that it closed, or the bench, and the number where it was refused. A past's own
+// step does not keep that.
 fn told(
     bench: Bench<Tried>,
     pages: &mut [Page<Sums>],

@@ -56,6 +56,27 @@ fn criteria_on_and_beside_the_limit(rt: HostRuntime) -> Result<(), Fail> {
     Ok(())
 }
 
+fn judges(limit: i32, k: i32, readings: &[i32]) -> Result<bool, Fault> {
+    Ok(Unknown::new(limit, k)?.judge(tally_of(readings)?).is_yes())
+}
+
+#[test]
+fn judges_and_refuses(rt: HostRuntime) -> Result<(), Fail> {
+    let close = [101, 101, 101, 103];
+    assert!(rt; judges(100, 1500, &close)?);
+    assert!(rt; !judges(100, 1501, &close)?);
+    assert!(rt; judges(10, 2000, &[10, 10])?);
+    assert!(rt; !judges(10, 2000, &[10, 20])?);
+    assert!(rt; !judges(100, 0, &[90, 90])?);
+    assert_eq!(rt; refusal(Unknown::new(2001, 0)), Some(5));
+    assert_eq!(rt; refusal(Unknown::new(-2001, 0)), Some(5));
+    assert_eq!(rt; refusal(Unknown::new(0, 4001)), Some(5));
+    assert_eq!(rt; refusal(Unknown::new(0, -1)), Some(5));
+    assert_eq!(rt; refusal(tally_of::<Tally>(&[0, 2001])), Some(14));
+    assert_eq!(rt; refusal(tally_of::<Tally>(&[7; 51])), Some(16));
+    Ok(())
+}
+
 #[test]
 fn tallies_of_at_most_50(rt: HostRuntime) {
     assert_eq!(rt; refusal(tally_of::<Tally>(&[0, 2001])), Some(14));

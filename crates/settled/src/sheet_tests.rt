@@ -1,6 +1,6 @@
 // Settled sheets: under the plan U each is carried out both ways, of the other plans on a bench.
 use crate::sheets::{
-    ACCEPTED, BLANK, NOT_ACCEPTED, Rows, both_ways, each_both_ways, each_on_a_bench, sheet_of,
+    ACCEPTED, BLANK, BenchRows, NOT_ACCEPTED, both_ways, each_both_ways, each_on_a_bench, sheet_of,
 };
 use carry::Outcome;
 use std::fmt::Write;
@@ -166,7 +166,7 @@ fn drums_in_the_order_of_first_naming(rt: HostRuntime) -> Result<(), Fail> {
     assert_eq!(rt; report.drums.len(), 2);
     assert_eq!(rt; (report.drums[0].name, report.drums[0].count), (3, 3));
     assert_eq!(rt; (report.drums[1].name, report.drums[1].count), (2, 1));
-    let mut rows = Rows::blank();
+    let mut rows = BenchRows::blank();
     let lot = rows.carry(&sheet)?;
     assert_eq!(rt; lot.plan.letter(), 85);
     assert_eq!(rt; (rows.singles[0].name, rows.singles[0].numbers.n), (3, 3));
@@ -178,7 +178,7 @@ fn drums_in_the_order_of_first_naming(rt: HostRuntime) -> Result<(), Fail> {
 #[test]
 fn entries_before_a_refused_one_stay(rt: HostRuntime) -> Result<(), Fail> {
     let sheet = sheet_of(rt.alloc(), "W3,0,9,0 D3 R1 D2 R2001")?;
-    let mut rows = Rows::blank();
+    let mut rows = BenchRows::blank();
     assert!(rt; rows.carry(&sheet).is_err());
     assert_eq!(rt; (rows.doubles[0].name, rows.doubles[0].numbers.0.n), (3, 1));
     assert_eq!(rt; (rows.doubles[1].name, rows.doubles[1].numbers.1.n), (2, 0));

@@ -4,7 +4,7 @@ use attributes::counts::Counts;
 use carry::Outcome;
 use fault::Fault;
 use method::verdict::Verdict;
-use rows::Page;
+use rows::{MOST_PAGES, Page};
 use std::alloc::{AllocGlobal, Global};
 use std::process::Abort;
 use std::test::Fail;
@@ -35,20 +35,20 @@ const BLANK_COUNT: Page<Counts> = Page {
     numbers: Counts { n: 0, z: 0 },
 };
 
-// The three rows of 64 pages of a bench, one of which a sheet of each plan is carried out on.
+// The three rows of a bench, one of which a sheet of each plan is carried out on.
 #[derive(Drop)]
-pub struct Rows {
-    pub singles: [Page<Sums>; 64],
-    pub doubles: [Page<(Sums, Sums)>; 64],
-    counts: [Page<Counts>; 64],
+pub struct BenchRows {
+    pub singles: [Page<Sums>; MOST_PAGES],
+    pub doubles: [Page<(Sums, Sums)>; MOST_PAGES],
+    counts: [Page<Counts>; MOST_PAGES],
 }
 
-impl Rows {
-    pub fn blank() -> Rows {
-        Rows {
-            singles: [BLANK; 64],
-            doubles: [BLANK_PAIR; 64],
-            counts: [BLANK_COUNT; 64],
+impl BenchRows {
+    pub fn blank() -> BenchRows {
+        BenchRows {
+            singles: [BLANK; MOST_PAGES],
+            doubles: [BLANK_PAIR; MOST_PAGES],
+            counts: [BLANK_COUNT; MOST_PAGES],
         }
     }
 
@@ -98,7 +98,7 @@ fn under_u(heap: Global, sheet: &[u8]) -> Came {
 
 // What the sheet comes to on a bench with blank rows.
 fn on_a_bench(sheet: &[u8]) -> Came {
-    let lot = Rows::blank().carry(sheet).map_err(number_and_entry)?;
+    let lot = BenchRows::blank().carry(sheet).map_err(number_and_entry)?;
     Ok(Some(lot.verdict))
 }
 

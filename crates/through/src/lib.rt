@@ -34,6 +34,7 @@ pub type Gauged<M> = Through<Gauge, M>;
 pub type Paired<M> = Through<Difference, M>;
 
 impl<F: Passing, M: Method<Reading = F::Below>> Through<F, M> {
+    // Puts a way of passing readings on over a method.
     pub fn over(passing: F, below: M) -> Through<F, M>
         ensures { (result.passing ≡ passing) × (result.below ≡ below) }
     {

@@ -39,7 +39,7 @@ impl Chance {
         self.next() % end
     }
 
-    // A number from low to high; low where there is none, for the same reason.
+    // A number from low to high; low where there is none, for the same reason. Two numbers, as `clamp` takes them.
     pub fn between(&mut self, low: i32, high: i32) -> i32
         ensures from { low ≤ℤ result }
         ensures upto { low ≤ℤ high → result ≤ℤ high }

@@ -24,6 +24,7 @@ struct Slip<R> {
 pub struct Desk<R: Copy> {
     n: usize,
     first_name: u32,
+    // As many places as the bench has pages.
     drums: [Option<u32>; DRUMS],
     slips: Vec<Slip<R>>,
 }

@@ -28,7 +28,7 @@ pub enum TrialError {
     Output,
 }
 
-// The number by which a call was refused; 0 where it was granted.
+// The number by which a call was refused, as it is printed; 0 where it was granted.
 fn number(answer: Result<(), Fault>) -> u8 {
     answer.map_or_else(Fault::number, |_| 0)
 }

@@ -1,4 +1,5 @@
-// Whole numbers of 128 bits: an answer that does not fit is an error.
+// Whole numbers of 128 bits: an answer that does not fit is an error. Each has a name, since `times(a, b)?` is plainer in
+// a formula than the checked call with its error.
 use crate::error::TrialError;
 
 pub fn plus(a: i128, b: i128) -> Result<i128, TrialError> {

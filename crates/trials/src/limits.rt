@@ -126,30 +126,27 @@ fn lone_on_limit(chance: &mut Chance) -> (Lone, i32) {
     (lone, k)
 }
 
-// A lot with a lone reading, on the lower limit.
-fn on_lower(chance: &mut Chance) -> Result<Lot, AllocError> {
+// A lot with a lone reading, on a limit from one number to another: the lower one, or the upper one where the sign is
+// turned.
+fn on_limit(chance: &mut Chance, from: i32, upto: i32, sign: i32) -> Result<Lot, AllocError> {
     let (lone, k) = lone_on_limit(chance);
-    let lower = chance.between(-1500, 500);
+    let limit = chance.between(from, upto);
+    let other = limit.saturating_add(sign.saturating_mul(1500));
     Ok(Lot {
-        lower,
-        upper: lower + 1500,
+        lower: limit.min(other),
+        upper: limit.max(other),
         sigma: 0,
         k,
-        readings: lone.readings(chance.heap(), lower, 1)?,
+        readings: lone.readings(chance.heap(), limit, sign)?,
     })
 }
 
-// A lot with a lone reading, on the upper limit.
+fn on_lower(chance: &mut Chance) -> Result<Lot, AllocError> {
+    on_limit(chance, -1500, 500, 1)
+}
+
 fn on_upper(chance: &mut Chance) -> Result<Lot, AllocError> {
-    let (lone, k) = lone_on_limit(chance);
-    let upper = chance.between(-500, 1500);
-    Ok(Lot {
-        lower: upper - 1500,
-        upper,
-        sigma: 0,
-        k,
-        readings: lone.readings(chance.heap(), upper, -1)?,
-    })
+    on_limit(chance, -500, 1500, -1)
 }
 
 // The lot with one reading moved by 1.

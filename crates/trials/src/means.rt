@@ -46,7 +46,7 @@ fn even(chance: &mut Chance, mean: i32) -> Result<Vec<i32>, AllocError> {
 }
 
 fn on_limit(chance: &mut Chance, mean: i32) -> Result<Vec<i32>, AllocError> {
-    let (n, level, apart) = JUST_MET[chance.below(8)];
+    let (n, level, apart) = JUST_MET[chance.below(JUST_MET.len())];
     let sign = chance.sign();
     Lone { n, level, apart }.readings(chance.heap(), mean, sign)
 }

@@ -52,10 +52,8 @@ impl<'a, M: Method + Copy> Work<'a, M> {
         let desk = Desk::new(n, readings, chance)?;
         let numbers = method.numbers(method.blank());
         let mut pages = vec![in chance.heap(); Page { name: 0, numbers }; DRUMS]?;
-        let bench = Bench::set_up(method, u32::try_from(n)?, &mut pages).map_err(|(
-            fault,
-            _,
-        )| fault)?;
+        let n = u32::try_from(n)?;
+        let bench = Bench::set_up(method, n, &mut pages).map_err(|(fault, _)| fault)?;
         Ok(Work {
             bench,
             pages,

@@ -62,7 +62,7 @@ impl Tallying for Tally {
 
     fn made(x: Sums) -> Option<Tally> {
         let size = x.s.unsigned_abs();
-        let n = x.n as u64;
+        let n = u64::from(x.n);
         if x.n > MOST_PLANNED || size > SIZE * n || x.q > SQUARE * n || n * x.q < size * size {
             None
         } else {
@@ -84,11 +84,11 @@ impl Tallying for Tally {
         if !is_reading(r) {
             return Err(Fault::ReadingNotTaken(0));
         }
-        let size = r.unsigned_abs() as u64;
+        let size = u64::from(r.unsigned_abs());
         Ok(Tally {
             sums: Sums {
                 n: 1,
-                s: r as i64,
+                s: i64::from(r),
                 q: size * size,
             },
         })

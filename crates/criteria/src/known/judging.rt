@@ -19,12 +19,12 @@ fn scatter(k: i32, sigma: i32, t: Tally) -> i64
     requires deviation { unsigned_abs sigma ≤ 2000 }
     ensures { result ≡ k *ℤ sigma *ℤ pos t.sums.n }
 {
-    let each = times::<4_000, 2_000>(k as i64, sigma as i64);
-    times::<8_000_000, 50>(each, t.count() as i64)
+    let each = times::<4_000, 2_000>(i64::from(k), i64::from(sigma));
+    times::<8_000_000, 50>(each, i64::from(t.count()))
 }
 
 impl Known {
-    // What is said of the lot that the readings were taken from.
+    // What is said of the lot that the readings were taken from. It tells more than a criterion's verdict has to.
     pub fn judge(self, t: Tally) -> Verdict
         ensures value { result ≡ judged self.limit self.sigma self.k t.sums }
         ensures exact { Tells result self.limit self.sigma self.k t.sums }

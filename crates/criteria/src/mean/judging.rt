@@ -1,6 +1,7 @@
 // The criterion of the mean: its verdict.
-ghost use Rattle.std.specs.Prelude.{◌≡◌, ◌≤◌, pos, ◌*ℤ◌, unsigned_abs};
+ghost use Rattle.std.specs.Prelude.{◌≡◌, ◌≤◌, pos, ◌*ℤ◌};
 ghost use Rattle.criteria.specs.Mean.{Tells, allowed, judged};
+ghost use Rattle.variables.specs.Sums.{spread};
 
 use super::Mean;
 use crate::products::{above_limit, million_squares, spread_of, times};
@@ -10,26 +11,24 @@ use method::verdict::Verdict;
 use variables::tally::Tally;
 
 // T × T × D
-fn scatter(t: u32, d: i64) -> i64
-    requires fractile { t ≤ 6314 }
-    requires size { unsigned_abs d ≤ 10000000000 }
-    ensures { result ≡ pos t *ℤ pos t *ℤ d }
+fn scatter(fractile: u32, t: Tally) -> i64
+    requires { fractile ≤ 6314 }
+    ensures { result ≡ pos fractile *ℤ pos fractile *ℤ spread t.sums }
 {
-    let t = t as i64;
-    let square = times::<6_314, 6_314>(t, t);
-    times::<39_866_596, 10_000_000_000>(square, d)
+    let fractile = i64::from(fractile);
+    let square = times::<6_314, 6_314>(fractile, fractile);
+    times::<39_866_596, 10_000_000_000>(square, spread_of(t))
 }
 
 impl Mean {
-    // What is said of the lot that the readings were taken from.
+    // What is said of the lot that the readings were taken from. It tells more than a criterion's verdict has to.
     pub fn judge(self, t: Tally) -> Verdict
         ensures value { result ≡ judged self.n self.mean t.sums }
         ensures exact { Tells result self.n self.mean t.sums }
     {
         let m = above_limit(self.mean, t);
-        let d = spread_of(t);
         let fractile = fractile(self.n - 1);
-        Verdict::at_most(million_squares(t, m), scatter(fractile, d))
+        Verdict::at_most(million_squares(t, m), scatter(fractile, t))
     }
 }
 

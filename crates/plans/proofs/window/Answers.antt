@@ -5,12 +5,13 @@ use Rattle.both.specs.Both.{both}
 use Rattle.criteria.specs.Unknown.{constants, unknown}
 use Rattle.criteria.specs.declared.unknown.Unknown.{Unknown}
 use Rattle.inspection.specs.declared.Inspection.{Inspection}
+use Rattle.method.proofs.Exactly.{le_to}
 use Rattle.method.specs.Meaning.{Meaning}
 use Rattle.through.specs.Passings.{reversed}
 use Rattle.variables.specs.Sums.{reading}
 use Rattle.variables.specs.declared.sums.Sums.{Sums}
 use Rattle.plans.specs.Piles.{window, window_constants}
-use Rattle.plans.proofs.Limits.{le_to, small, turned_back, upper_ok, window_from}
+use Rattle.plans.proofs.Limits.{small, turned_back, upper_ok, window_from}
 use Rattle.plans.proofs.Made.{as_made, granted, refused}
 use Rattle.plans.proofs.window.Goals as goal
 

@@ -8,7 +8,8 @@ use Rattle.sheet.specs.Reading.{advanced, item_of, progress, seen}
 use Rattle.sheet.specs.Sheets.{Answered}
 use Rattle.carry.specs.Booking.{Books, view}
 use Rattle.carry.specs.Carrying.{books_of}
-use Rattle.carry.proofs.Walks.{along_denied, along_more, ends, met_at, unread}
+use Rattle.fault.proofs.Passed.{met_at}
+use Rattle.carry.proofs.Walks.{along_denied, along_more, ends, unread}
 use Rattle.carry.proofs.carrying.book_entries.Goals as goal
 
 pub returns-in_err-entry : goal.returns-in_err-entry

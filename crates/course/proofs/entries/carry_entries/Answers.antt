@@ -5,7 +5,8 @@ use Rattle.fault.proofs.Passed.{located_ok}
 use Rattle.fault.specs.Faults.{met}
 use Rattle.sheet.proofs.Runs.{Pace, step_part, steps}
 use Rattle.sheet.specs.Reading.{advanced, item_of, progress, seen}
-use Rattle.course.proofs.Courses.{Came, along_denied, along_ended, along_more, along_unread, met_at}
+use Rattle.fault.proofs.Passed.{met_at}
+use Rattle.course.proofs.Courses.{Came, along_denied, along_ended, along_more, along_unread}
 use Rattle.course.proofs.entries.carry_entries.Goals as goal
 
 pub returns-in_err-entry : goal.returns-in_err-entry

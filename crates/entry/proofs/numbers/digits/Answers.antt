@@ -1,7 +1,7 @@
 use Rattle.std.proofs.Common.{◌≡◌, ℕ, ◌+◌, ◌*◌, ◌^◌, ◌<◌, ◌≤◌, pow-suc, add-one, pos, arith, w32, to_z}
 use borrow.Author.Differences.{ints}
 use native.Mathlib.Nat.{pow-le-pow_right}
-use Rattle.std.proofs.lemmas.List.{at_drop_more, at_drop_all}
+use Rattle.std.proofs.lemmas.List.{at_drop_all}
 use Rattle.std.proofs.lemmas.Bool.Decides.{nat_tests}
 use Rattle.entry.specs.Numbers.{digits_after}
 use Rattle.entry.proofs.numbers.digits.Goals as goal
@@ -12,24 +12,11 @@ grows n d i h k = let e : 10 ^ (i + 1) ≡ 10 ^ i * 10 = rw add-one (pow-suc 10 
 under : (n i j : ℕ) → n < 10 ^ i → i ≤ j → n < 10 ^ j
 under n i j h k = let p : 10 ^ i ≤ 10 ^ j = pow-le-pow_right (omega arith) k in omega arith
 
-pub returns-then-not-is_ascii_digit : goal.returns-then-not-is_ascii_digit
-returns-then-not-is_ascii_digit c =
-    let e = at_drop_more (digits_after c.loop-c.n) c.args.text.now c.loop-c.c-index 0 (omega arith) in
-    let i = c.loop-c.invariant.0 in
-    record { value = grind (arith, nat_tests); short = tt }
-
 pub overflow_mul-n : goal.overflow_mul-n
 overflow_mul-n c = omega (arith, under c.loop-c.n c.loop-c.c-index 8 c.loop-c.invariant.1 (omega arith))
 
 pub overflow_add-n : goal.overflow_add-n
 overflow_add-n c = omega (arith, under c.loop-c.n c.loop-c.c-index 8 c.loop-c.invariant.1 (omega arith))
-
-pub loop-c-preserved : goal.loop-c-preserved
-loop-c-preserved c =
-    let e = at_drop_more (digits_after c.loop-c.n) c.args.text.now c.loop-c.c-index 0 (omega arith) in
-    let i = c.loop-c.invariant.0 in
-    let d : c.from.result < 10 = grind (arith, nat_tests) in
-    (grind (arith, nat_tests), grows c.loop-c.n _ _ c.loop-c.invariant.1 d)
 
 pub returns : goal.returns
 returns c =

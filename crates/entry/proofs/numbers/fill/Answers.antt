@@ -3,26 +3,12 @@ use borrow.Author.Differences.{ints}
 use Rattle.std.proofs.lemmas.Result.{err_from_is_err_and}
 use Rattle.std.proofs.lemmas.List.Sorted.{answers_always}
 use Rattle.std.specs.Slice.Iter.{split_done, split_rest}
-use Rattle.fault.specs.declared.Fault.TheVariants.{EntryForm}
 use Rattle.entry.specs.Numbers.{is_comma}
-use Rattle.entry.proofs.Commas.{begins, stops, goes, lacks, ends, exceeds}
+use Rattle.entry.proofs.Commas.{stops, goes}
 use Rattle.entry.proofs.numbers.fill.Goals as goal
 
 whole : (x : ℤ) → nat_abs x < 10 ^ 7 → to_z w32 (of_z w32 x) ≡ x
 whole x h = omega (arith, ints)
-
-pub loop-slot-init : goal.loop-slot-init
-loop-slot-init c =
-    (rw (c.split-pieces.ensures.done, c.split-pieces.ensures.rest) (begins (length c.args.found.now) c.args.text.now c.requires), refl)
-
-pub returns-in_err-piece : goal.returns-in_err-piece
-returns-in_err-piece c =
-    let e = c.in_err-piece.ensures.ok_part in
-    let s = rw e at c.next.ensures.steps in
-    let p = err_from_is_err_and c.from_residual.result c.from_residual.ensures.1 in
-    let l = c.loop-slot in
-    let f : c.in_err-piece.field-0.0 ≡ EntryForm 0 = cc (rw e at c.in_err-piece.ensures.value) in
-    rw (p.1, p.2, f) (sym (l.invariant.0 ∙ lacks (length c.args.found.now) l.slot-index (split_rest l.pieces) (split_done l.pieces) l.found (omega arith) s.0))
 
 pub returns-in_err-slot : goal.returns-in_err-slot
 returns-in_err-slot c =
@@ -42,13 +28,3 @@ loop-slot-preserved c =
     let w : to_z w32 (of_z w32 x) ≡ x = whole x (c.in_ok-slot.ensures.printed.reads x refl).1 in
     let k = l.invariant.0 ∙ goes (length c.args.found.now) l.slot-index (split_rest l.pieces) (split_done l.pieces) l.found c.in_ok-piece.piece.now (split_rest c.next.new.self) (split_done c.next.new.self) (omega arith) s.0 s.1 f x l.invariant.1 (sym c.in_ok-slot.ensures.value) in
     rw w (k, length-set l.found l.slot-index x ∙ l.invariant.1)
-
-pub returns-in-None : goal.returns-in-None
-returns-in-None c =
-    let l = c.loop-slot in
-    sym (l.invariant.0 ∙ ends (length c.args.found.now) l.slot-index (split_rest l.pieces) (split_done l.pieces) l.found (omega arith) c.in-None.ensures.steps.0 l.invariant.1)
-
-pub returns-in-Some : goal.returns-in-Some
-returns-in-Some c =
-    let l = c.loop-slot in
-    sym (l.invariant.0 ∙ exceeds (length c.args.found.now) l.slot-index (split_rest l.pieces) (split_done l.pieces) l.found (omega arith) c.in-Some.ensures.steps.0)

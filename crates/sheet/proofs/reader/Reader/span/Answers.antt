@@ -2,9 +2,6 @@ use Rattle.std.proofs.Common.{arith}
 use Rattle.sheet.proofs.Places.{sound_place}
 use Rattle.sheet.proofs.reader.Reader.span.Goals as goal
 
-pub span_at-requires : goal.span_at-requires
-span_at-requires c = let r = c.args.self.now in (sound_place r.sheet.now r.count r.next r.sound c.requires).1
-
 pub returns : goal.returns
 returns c =
     let r = c.args.self.now in
