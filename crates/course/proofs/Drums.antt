@@ -12,11 +12,6 @@ use Rattle.course.specs.Course.{Carried}
 abbrev Lines : Type 0 → Type 0
 Lines R = List (Line R)
 
--- the name was opened, or is open
-abbrev pub Goes : Result (Unit {0}) Fault → Type 0
-Goes (Ok u) = Unit {0}
-Goes (Err f) = (i : ℕ) × (f ≡ NameOpen i)
-
 module _ {R : Type 0} where
   -- opening by its three tests, and a drum by the same
   abbrev pub opens : Bool → Bool → Bool → Lines R → Result (Lines R) Fault
@@ -24,12 +19,6 @@ module _ {R : Type 0} where
 
   abbrev pub calls : Bool → Bool → Bool → ℕ → Lines R → Lines R → Result (ℕ × Lines R) Fault
   calls a b c x ls ks = cond a (cond b (Ok (x, ls)) (cond c (Ok (x, ks)) (Err (RowFull 0)))) (Err (NameRange 0))
-
-  pub goes_on : (a b c : Bool) (x : ℕ) (ls ks : Lines R) → Goes (told (opens a b c ks)) → calls a b c x ls ks ≡ Ok (x, after (opens a b c ks) ls)
-  goes_on true true c x ls ks h = refl
-  goes_on true false true x ls ks h = refl
-  goes_on true false false x ls ks h = let e = h.1 in absurd (cc)
-  goes_on false b c x ls ks h = let e = h.1 in absurd (cc)
 
   pub denied : (a b c : Bool) (x : ℕ) (ls ks : Lines R) (f : Fault) → Err f ≡ told (opens a b c ks) → ((i : ℕ) → f ≡ NameOpen i → ⊥) → (calls a b c x ls ks ≡ Err f) × (after (opens a b c ks) ls ≡ ls)
   denied true true c x ls ks f h t = absurd (t 0 (cc))

@@ -113,9 +113,6 @@ module _ (n i : ℕ) (bs : List ℕ) (over : Bool) (found : List ℤ) where
   pub ends : n ≤ i → over ≡ true → length found ≡ n → so_far ≡ Ok found
   ends h o l = let e : n - i ≡ 0 = omega arith in rw (e, o, append-nil) (ap Ok (take_all i found (omega arith)))
 
-  pub exceeds : n ≤ i → over ≡ false → so_far ≡ Err (EntryForm 0)
-  exceeds h o = let e : n - i ≡ 0 = omega arith in rw (e, o)
-
   -- the next piece is x, and r is what is left then
   module _ (x r : List ℕ) (done : Bool) (more : i < n) (some : over ≡ false) (cut : MatchBool done (bs ≡ x) ((y : ℕ) × (bs ≡ x ++ y ∷ r))) (first : IsFirstMatchOrLen is_comma bs (length x)) where
     here : left (n - i) over bs ≡ onto (number_of x) (left (n - (i + 1)) done r)
