@@ -1,8 +1,8 @@
 // Numbers as text.
-ghost use Rattle.std.specs.Prelude.{◌≡◌, ◌<◌, length, IfOk, pos};
-ghost use Rattle.entry.specs.Numbers.{digits_of, number_of, numbers_of};
+ghost use Rattle.std.specs.Prelude.{◌≡◌, ◌<◌, ◌≤◌, length, IfOk, pos};
+ghost use Rattle.entry.specs.Numbers.{digits_of, is_comma, number_of, numbers_of};
 ghost use Rattle.entry.specs.Printed.{Printed, Short};
-ghost use Rattle.fault.specs.Located.{then};
+ghost use Rattle.std.specs.List.{position_or_len};
 ghost use Rattle.std.specs.Option.{ok_or, option_map};
 
 use fault::Fault;
@@ -40,29 +40,30 @@ pub fn number(text: &[u8]) -> Result<i32, Fault>
     }
 }
 
-// As many numbers as `found` has places, a comma between each and the next. It stands apart from `numbers` since a
-// loop beside an iterator is not proved where the function has a const parameter.
-fn fill(found: &mut [i32], text: &[u8]) -> Result<(), Fault>
-    requires { 0 < length found.old }
-    ensures { then (λ _. Ok found.new) result ≡ numbers_of (length found.old) text.now }
+// Where the first comma stands, or the text's length.
+fn comma_at(text: &[u8]) -> usize
+    ensures value { result ≡ position_or_len is_comma text.now }
+    ensures within { result ≤ length text.now }
 {
-    let mut pieces = text.split(|c| *c == b',');
-    for slot in found.iter_mut() {
-        let piece = pieces.next().ok_or(Fault::EntryForm(0))?;
-        *slot = number(piece)?;
-    }
-    match pieces.next() {
-        None => Ok(()),
-        Some(_) => Err(Fault::EntryForm(0)),
-    }
+    text.iter().position(|c| *c == b',').unwrap_or(text.len())
 }
 
-// The N numbers that a text is, a comma between each and the next.
+// The N numbers that a text is, a comma between each and the next. The last is all that is left of the text, so that a
+// long one is refused by its length and not gone through.
 pub(crate) fn numbers<const N: usize>(text: &[u8]) -> Result<[i32; N], Fault>
     requires { 0 < N }
     ensures { result ≡ numbers_of N text.now }
 {
     let mut found = [0; N];
-    fill(&mut found, text)?;
+    let mut rest = text;
+    for i in 0..N - 1 {
+        let (piece, behind) = rest.split_at(comma_at(rest));
+        found[i] = number(piece)?;
+        let [_, more @ ..] = behind else {
+            return Err(Fault::EntryForm(0));
+        };
+        rest = more;
+    }
+    found[N - 1] = number(rest)?;
     Ok(found)
 }
