@@ -227,9 +227,17 @@ impl<M: Method> Bench<M> {
         ensures value { result ≡ judged (M.Method.meaning self.method) M.Method.stands self.n pages.now }
         ensures ledger { (ls : List (Line M.Reading)) → Holds (M.Method.meaning self.method) M.Method.stands self.n ls pages.now → result ≡ judging (M.Method.meaning self.method) self.n ls }
     {
-        let tally = self.whole_tally(pages);
-        let method = self.into_method();
-        Ok(method.verdict(tally?))
+        match self.close(pages) {
+            Ok(lot) => {
+                let verdict = lot.judge();
+                let _ = lot.into_method();
+                Ok(verdict)
+            }
+            Err((fault, bench)) => {
+                let _ = bench.into_method();
+                Err(fault)
+            }
+        }
     }
 
     // Gives the bench up for its method.
