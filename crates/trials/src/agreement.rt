@@ -9,7 +9,7 @@ use method::Method;
 const BEYOND: i32 = 2_001;
 
 // Where a lot lies, if the bench agrees. Wrong slips are added behind those that are to stand.
-pub fn agreed<M: Method + Copy, F: Fn(&mut Chance) -> M::Reading>(
+pub(crate) fn agreed<M: Method + Copy, F: Fn(&mut Chance) -> M::Reading>(
     method: M,
     mut slips: Vec<M::Reading>,
     beyond: Option<M::Reading>,

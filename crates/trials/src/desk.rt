@@ -1,4 +1,6 @@
 // A second record of what should stand on a bench: a slip for each reading, and the drum that it is entered on.
+ghost use Rattle.std.specs.Prelude.{◌≤◌};
+
 use crate::chance::Chance;
 use fault::Fault;
 use std::alloc::AllocError;
@@ -11,6 +13,9 @@ const NAMES: u32 = 8;
 
 // Written out anew, as the whole of this record is.
 const HIGHEST_NAME: u32 = 255;
+
+// The most slips of a lot.
+const MOST_SLIPS: usize = 1_000;
 
 // A reading, and the drum that it is entered on.
 #[derive(Clone, Copy)]
@@ -67,9 +72,11 @@ impl<R: Copy> Desk<R> {
         self.n
     }
 
-    // How many slips there are.
-    pub fn number(&self) -> usize {
-        self.slips.len()
+    // How many slips there are; no lot has more than 1000.
+    pub fn number(&self) -> usize
+        ensures { result ≤ 1000 }
+    {
+        self.slips.len().min(MOST_SLIPS)
     }
 
     pub fn is_open(&self, name: u32) -> bool {
@@ -184,7 +191,7 @@ impl<R: Copy> Desk<R> {
 
     // A slip that is not entered, the first one from some place on.
     pub fn some_loose(&self, chance: &mut Chance) -> Option<usize> {
-        self.loose_below(self.slips.len(), chance)
+        self.loose_below(self.number(), chance)
     }
 
     // The same of the first n slips.

@@ -24,29 +24,7 @@ const LOTS: u32 = 400;
 // Each plan draws from this number and its letter.
 const SEED: u64 = 20_261;
 
-// Where lots of a plan lie to its limit, if the bench and the second calculation agree on all of them.
-fn tried<F: Fn(&mut Chance) -> Result<Side, TrialError>>(
-    rt: &HostRuntime,
-    letter: char,
-    lot: F,
-) -> Result<Vec<Side>, TrialError>
-    requires { F.IsAlwaysCallable lot }
-{
-    let mut chance = Chance::new(rt.alloc(), SEED ^ u64::from(letter));
-    let mut sides = Vec::new(rt.alloc());
-    for i in 0..LOTS {
-        match lot(&mut chance) {
-            Ok(side) => sides.push(side)?,
-            Err(error) => {
-                println!(rt; "{letter} lot {i}: {error}")?;
-                return Err(error);
-            }
-        }
-    }
-    Ok(sides)
-}
-
-// Tries lots of a plan, and counts them.
+// Tries lots of a plan until one is not agreed on. Counts as it goes, so that no list of lots is kept.
 fn try_plan<F: Fn(&mut Chance) -> Result<Side, TrialError>>(
     rt: &HostRuntime,
     letter: char,
@@ -54,9 +32,21 @@ fn try_plan<F: Fn(&mut Chance) -> Result<Side, TrialError>>(
 ) -> Result<(), TrialError>
     requires { F.IsAlwaysCallable lot }
 {
-    let sides = tried(rt, letter, lot)?;
-    let accepted = sides.iter().filter(|side| side.verdict().is_yes()).count();
-    let on_limit = sides.iter().filter(|side| **side == Side::OnLimit).count();
+    let mut chance = Chance::new(rt.alloc(), SEED ^ u64::from(letter));
+    let mut accepted: u32 = 0;
+    let mut on_limit: u32 = 0;
+    for i in 0..LOTS {
+        match lot(&mut chance) {
+            Ok(side) => {
+                accepted = accepted.saturating_add(u32::from(side.verdict().is_yes()));
+                on_limit = on_limit.saturating_add(u32::from(side == Side::OnLimit));
+            }
+            Err(error) => {
+                println!(rt; "{letter} lot {i}: {error}")?;
+                return Err(error);
+            }
+        }
+    }
     println!(rt; "{letter} {LOTS} lots agreed, {accepted} accepted, {on_limit} on the limit")?;
     Ok(())
 }

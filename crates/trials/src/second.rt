@@ -21,9 +21,13 @@ pub enum Side {
 }
 
 impl Side {
-    // A value equal to the limit is permissible.
+    // A value equal to the limit is permissible. By cases of its own: the conversion from a truth value is what the
+    // verdicts that are held to this one are made by.
     pub fn verdict(self) -> Verdict {
-        Verdict::from(self != Side::Outside)
+        match self {
+            Side::Outside => Verdict::NotAccepted,
+            Side::OnLimit | Side::Within => Verdict::Accepted,
+        }
     }
 }
 
