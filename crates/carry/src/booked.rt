@@ -9,6 +9,7 @@ use entry::Said;
 use fault::Fault;
 use inspection::criterion::Criterion;
 use inspection::tallying::Tallying;
+use method::is_planned;
 use std::alloc::Global;
 use variables::reading::is_reading;
 use variables::tally::Tally;
@@ -53,11 +54,11 @@ impl Booked {
     ghost use Rattle.carry.specs.Carrying.{Begun, closed, planned_number, reported};
 
     // Nothing booked yet, for a planned number that the method allows.
-    pub(crate) fn for_plan(heap: Global, method: &Unknown, n: i32) -> Result<Booked, Fault>
-        ensures { Begun result (planned_number n) }
+    pub(crate) fn for_plan(heap: Global, method: &Unknown, number: i32) -> Result<Booked, Fault>
+        ensures { Begun result (planned_number number) }
     {
-        match u32::try_from(n) {
-            Ok(n) if method.allows(n) => Ok(Booked {
+        match u32::try_from(number) {
+            Ok(n) if is_planned(number) && method.allows(n) => Ok(Booked {
                 n,
                 drums: Vec::new(heap),
                 current: 0,
