@@ -16,7 +16,7 @@ use Rattle.rows.specs.Pages as rows
 use Rattle.rows.specs.Checks.{checked}
 use Rattle.rows.specs.Joining.{sum_of}
 use Rattle.rows.specs.Pages.{page}
-use Rattle.bench.specs.Calls.{after, at, blank_page, closed, judged, named, opened, poured, read, struck, struck_at, told}
+use Rattle.bench.specs.Calls.{admitted, after, at, blank_page, closed, judged, named, opened, poured, read, struck, struck_at, told}
 use Rattle.bench.specs.Ledger.{CarriedOut, Follows, Line, judging, line, is_open, standing, readings_of, add, remove, row, Shows, Sound, Holds, opening, reading, striking, pouring}
 use Rattle.bench.proofs.Shows.{named_not_0, length_row, found, place_blank, checked_row}
 use Rattle.bench.proofs.Edits.{apart_push, standing_push, open_add, apart_add, names_add, standing_add, readings_add, apart_remove, all_remove, standing_remove, length_remove, length_add, taken_add, taken_of, numbers_of, place_add, shown_add, shown_remove, shown_push}
@@ -258,3 +258,12 @@ module _ {R X : Type 0} (m : Meaning R X) (st : X → Bool) (laws : Laws m) (n :
       ap (then (λ x. Ok (m.verdict x))) (close_agrees ls ps h.shows h.sound)
       ∙ elim (ltb (length (standing ls)) n) as (λ b. then (λ x. Ok (m.verdict x)) (cond b (Err ReadingsMissing) (Ok (m.total (standing ls)))) ≡ cond b (Err ReadingsMissing) (Ok (m.verdict (m.total (standing ls)))))
       [ true ↦ refl | false ↦ refl ]
+
+-- closing changes no lines, granted or not
+pub closing_keeps : {A : Type 0} (b : Bool) (ls : A) → after (cond b (Err ReadingsMissing) (Ok ls)) ls ≡ ls
+closing_keeps true ls = refl
+closing_keeps false ls = refl
+
+-- a bench is set up on 1 to 64 pages alone
+pub admitted_pages : {R X : Type 0} (m : Meaning R X) (n size : ℕ) → admitted m n size ≡ Ok tt → (1 ≤ size) × (size ≤ 64)
+admitted_pages m n size h = (grind (arith, nat_tests, h), grind (arith, nat_tests, h))

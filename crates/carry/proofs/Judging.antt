@@ -40,7 +40,7 @@ booked : (n : ℕ) (x : Said) (b c : Books) → carried_out n x b ≡ Ok c → (
 booked n (Planned p) b c h = absurd (cc)
 booked n (Drummed a) b c h =
     let d = drum_kept a b c h in
-    (d ∙ sym (comm b.total none ∙ neutral b.total), tt, λ l. omega (arith, ap (λ (x : Sums). x.n) d))
+    (d.0 ∙ sym (comm b.total none ∙ neutral b.total), tt, λ l. omega (arith, ap (λ (x : Sums). x.n) d.0))
 booked n (Reading r) b c h =
     let d = entered_ok n r b c h in
     (d.2, (d.0, tt), λ l. omega (arith, ap (λ (x : Sums). x.n) d.2, d.1))

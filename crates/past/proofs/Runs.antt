@@ -1,13 +1,13 @@
 -- A past, one call at a time.
-use Rattle.std.proofs.Common.{◌≡◌, ℕ, Bool, true, false, List, [], ◌∷◌, ◌++◌, Ok, Err, Result, sym, refl, subst, arith}
+use Rattle.std.proofs.Common.{◌≡◌, ℕ, ◌<◌, ◌≤◌, Bool, true, false, List, [], ◌∷◌, ◌++◌, length, Ok, Err, Result, sym, refl, ap, subst, arith}
 use Rattle.std.proofs.ByRecursion.{All-push}
 use Rattle.std.proofs.lemmas.Bool.Decides.{nat_tests}
 use Rattle.std.specs.List.{AllByRecursion}
 use Rattle.fault.specs.declared.Fault.{Fault}
 use Rattle.method.specs.Meaning.{Meaning, Taken}
 use Rattle.bench.specs.Calls.{after}
-use Rattle.bench.specs.Ledger.{Holds, Line, add, remove, line, readings_of}
-use Rattle.bench.proofs.Edits.{all_remove, taken_add, taken_of}
+use Rattle.bench.specs.Ledger.{Holds, Line, add, is_open, remove, line, readings_of, standing}
+use Rattle.bench.proofs.Edits.{all_remove, readings_add, standing_add, standing_push, standing_remove, taken_add, taken_of}
 use Rattle.rows.specs.declared.page.Page.{Page}
 use Rattle.past.specs.Pasts.{call, ends, run}
 use Rattle.past.specs.declared.calls.Call.{Call}
@@ -46,3 +46,41 @@ module _ {R X : Type 0} (m : Meaning R X) (n size : ℕ) where
   pub run_taken : (cs : List (Call R)) (ls : List (Line R)) → AllByRecursion (λ l. Taken m l.readings) ls → AllByRecursion (λ l. Taken m l.readings) (run m n size cs ls)
   run_taken [] ls h = h
   run_taken (c ∷ cs) ls h = grind (arith, nat_tests, run_taken cs (after (call m n size c ls) ls) (call_taken c ls h))
+
+  Few : List (Line R) → Type 0
+  Few ls = length (standing ls) ≤ n
+
+  granted_few : (c : Call R) (ls ks : List (Line R)) → length (standing ls) ≤ n → call m n size c ls ≡ Ok ks → Few ks
+  unfolding Few
+  granted_few (Open x) ls ks h e =
+      let is : ks ≡ ls ++ line x [] ∷ [] = grind (arith, nat_tests, e) in
+      let f = ap length (standing_push x ls) in
+      subst Few (sym is) (omega arith)
+  granted_few (Read x r) ls ks h e =
+      let is : ks ≡ add x (r ∷ []) ls = grind (arith, nat_tests, e) in
+      let there : is_open x ls ≡ true = grind (arith, nat_tests, e) in
+      let room : length (standing ls) < n = grind (arith, nat_tests, e) in
+      let f = standing_add x (r ∷ []) ls there in
+      subst Few (sym is) (omega arith)
+  granted_few (Strike x) ls ks h e =
+      let is : ks ≡ remove x ls = grind (arith, nat_tests, e) in
+      let f = standing_remove x ls in
+      subst Few (sym is) (omega arith)
+  granted_few (Pour s g) ls ks h e =
+      let is : ks ≡ remove s (add g (readings_of s ls) ls) = grind (arith, nat_tests, e) in
+      let there : is_open g ls ≡ true = grind (arith, nat_tests, e) in
+      let two : s ≡ g → ⊥ = λ o. grind (arith, nat_tests, e, o) in
+      let a = standing_remove s (add g (readings_of s ls) ls) in
+      let b = standing_add g (readings_of s ls) ls there in
+      let d = ap length (readings_add s g (readings_of s ls) ls two) in
+      subst Few (sym is) (omega arith)
+  granted_few Close ls ks h e = let is : ks ≡ ls = grind (arith, nat_tests, e) in subst Few (sym is) h
+
+  call_few : (c : Call R) (ls : List (Line R)) → length (standing ls) ≤ n → length (standing (after (call m n size c ls) ls)) ≤ n
+  unfolding Few
+  call_few c ls h = kept Few (call m n size c ls) ls h (λ ks e. granted_few c ls ks h e)
+
+  -- no more readings stand after a run than n, where no more did before it
+  pub run_few : (cs : List (Call R)) (ls : List (Line R)) → length (standing ls) ≤ n → length (standing (run m n size cs ls)) ≤ n
+  run_few [] ls h = h
+  run_few (c ∷ cs) ls h = grind (arith, nat_tests, run_few cs (after (call m n size c ls) ls) (call_few c ls h))

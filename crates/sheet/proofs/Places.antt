@@ -1,11 +1,22 @@
 -- What the place of an entry tells.
-use Rattle.std.proofs.Common.{◌≡◌, ℕ, zero, suc, ◌+◌, ◌-◌, ◌*◌, ◌<◌, ◌≤◌, Bool, true, false, cond, ◌⊎◌, List, length, Some, None, Ok, Err, Option, refl, ◌∙◌, subst, inl, inr, ⊎_elim, arith}
+use Rattle.std.proofs.Common.{◌≡◌, ℕ, zero, suc, ◌+◌, ◌-◌, ◌*◌, ◌<◌, ◌≤◌, Bool, true, false, cond, ◌⊎◌, List, length, get_or, Some, None, Ok, Err, Option, refl, ◌∙◌, subst, inl, inr, ⊎_elim, arith}
 use Rattle.std.proofs.lemmas.List.Edits.{length-between}
+use Rattle.std.proofs.lemmas.List.{get_or_past}
 use Rattle.std.proofs.lemmas.Bool.{cases_lt}
 use Rattle.std.proofs.lemmas.Bool.Decides.{nat_tests}
 use Rattle.fault.specs.declared.Fault.TheVariants.{SheetSize}
 use Rattle.sheet.specs.Rules.{Placed, Sized}
 use Rattle.sheet.specs.Table.{count_of, end_at, end_before, misplaced, offset_at, part_at, placed, size_at, sized, table_of, unless}
+
+-- a pair beyond the sheet has no length from 1 to 48
+pub beyond : (s : List ℕ) (i : ℕ) → length s < 2 + 4 * i + 4 → placed s i ≡ false
+beyond s i h =
+    let low : get_or s (4 + 4 * i + 1) 0 ≡ 0 = get_or_past s (4 + 4 * i + 1) 0 (omega arith) in
+    grind (arith, nat_tests)
+
+-- the pair of an entry in its place lies in the sheet
+pub pair_within : (s : List ℕ) (i : ℕ) → placed s i ≡ true → 2 + 4 * i + 4 ≤ length s
+pair_within s i p = ⊎_elim (λ h. let f = beyond s i h in absurd (cc)) (λ h. h) (cases_lt (length s) (2 + 4 * i + 4))
 
 pub sized_is : (s : List ℕ) → sized s ≡ true → Sized s
 sized_is s h =
