@@ -16,4 +16,5 @@ returns g c =
     let x = c.args.name in
     let ps = c.args.pages.now in
     let e : c.position.result ≡ position (λ p. eqb p.name x) ps = position_from_yields_List (λ p. eqb p.name x) _ _ c.position.result c.position.ensures.ran (YieldsList-from_slice ps c.iter.ensures.rest) (λ y b q k. search (rules, tests)) in
-    e ∙ ap (λ k. cond (ltb k (length ps)) (Some k) None) (placed x ps)
+    let f = e ∙ ap (λ k. cond (ltb k (length ps)) (Some k) None) (placed x ps) in
+    search (rules, tests)
